@@ -1,0 +1,13 @@
+pub mod Base
+pub mod Book
+pub mod Table
+pub mod Spell
+pub mod Values
+pub mod Rules
+pub mod Valid
+pub mod Sets
+pub mod Clearance
+pub mod Picks
+pub mod Findings
+pub mod Program
+pub mod Cases

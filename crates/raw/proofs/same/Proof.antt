@@ -1,0 +1,61 @@
+-- `raw::same` meets its contract: as far as it went the texts are alike, so they are alike where what is left of them is.
+use Rattle.meaning.specs.Base.{sameText}
+use native.Mathlib.Omega.{arith}
+use lib.ListN.{length, drop}
+use Prim.Native.Nat.{_≤_, _-_}
+use mathlib.Core.Path.{_≡_, refl, sym}
+use Rattle.raw.proofs.Laws.{lengths-differ, bytes-same, bytes-differ, bytes-end}
+use borrow.Author.Needs.{needs}
+use Rattle.raw.proofs.same.Statement.{statement}
+use Rattle.raw.proofs.same.Tie as tie
+use Rattle.raw.proofs.same.Reads as reads
+use Rattle.raw.proofs.same.Lts as lts
+
+abbrev Inv-loop : tie.InvT-loop
+Inv-loop a b i₀ i = (i ≤ length a) × (sameText a b ≡ sameText (drop i a) (drop i b))
+
+abbrev μ-loop : tie.MeasureT-loop
+μ-loop a b i₀ i = length a - i
+
+returns : tie.Need-returns Inv-loop μ-loop
+returns c = sym (lengths-differ _ _ (c .if1 .taken))
+
+loop-holds : tie.Need-loop-holds Inv-loop μ-loop
+loop-holds c = (omega arith, refl)
+
+shared-slice-read-if2 : tie.Need-shared-slice-read-if2 Inv-loop μ-loop
+shared-slice-read-if2 c = search needs
+
+shared-slice-read-if2-2 : tie.Need-shared-slice-read-if2-2 Inv-loop μ-loop
+shared-slice-read-if2-2 c = search needs
+
+returns-2 : tie.Need-returns-2 Inv-loop μ-loop
+returns-2 c = sym (bytes-differ _ _ _ (omega arith) (omega arith) (c .before .before .before .before .loop .inv .1) (c .if2 .taken))
+
+add-i : tie.Need-add-i Inv-loop μ-loop
+add-i c = search needs
+
+loop-less : tie.Need-loop-less Inv-loop μ-loop
+loop-less c = search needs
+
+loop-again : tie.Need-loop-again Inv-loop μ-loop
+loop-again c = (omega arith, bytes-same _ _ _ (omega arith) (omega arith) (c .before .before .before .before .loop .inv .1) (c .if2 .left))
+
+returns-3 : tie.Need-returns-3 Inv-loop μ-loop
+returns-3 c = sym (bytes-end _ _ _ (c .before .before .if1 .left) (c .loop-test .left) (c .before .loop .inv .1))
+
+pub same-spec : {M : Type 1} → statement M
+same-spec =
+    tie.close
+    (tie.spec
+    Inv-loop
+    μ-loop
+    returns
+    loop-holds
+    shared-slice-read-if2
+    shared-slice-read-if2-2
+    returns-2
+    add-i
+    loop-less
+    loop-again
+    returns-3)
