@@ -27,7 +27,7 @@ due-after t n zero h e = absurd (omega arith)
 due-after t n (suc s) h e = let q : suc s - 1 ≡ s = omega arith in rw q at e
 
 -- a signed word fits 32 bits
-signed-fits : (u : ℕ) → u < 4294967296 → SFits w32 (signedOf u)
+pub signed-fits : (u : ℕ) → u < 4294967296 → SFits w32 (signedOf u)
 signed-fits u lt = by (ltb u 2147483648) refl
   where
     by : (b : Bool) → ltb u 2147483648 ≡ b → SFits w32 (pick b (pos u) (negsuc (4294967295 - u)))

@@ -1,2 +1,3 @@
 pub mod First
 pub mod Below
+pub mod Folds

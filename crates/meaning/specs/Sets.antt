@@ -109,20 +109,23 @@ nodeSets m ys = build (nodeSet m ys) (nodes m)
 unfoldable pub givenSet : List ℕ → List ℕ → List ℕ → ℕ → ℕ
 givenSet m ys ss k = pairs andOf (sat ys (selectorOf m k)) (sat ss (conditionOf m k))
 
+unfoldable pub lowerSetStep : List ℕ → List ℕ → List ℕ → ℕ → ℕ → ℕ → ℕ
+lowerSetStep m ys ss s k low = pick (eqb (targetOf m k) s) (pairs orOf low (givenSet m ys ss k)) low
+
 unfoldable pub lowerSet : List ℕ → List ℕ → List ℕ → ℕ → ℕ
-lowerSet m ys ss s = fold (λ k low. pick (eqb (targetOf m k) s) (pairs orOf low (givenSet m ys ss k)) low) 1 (selects m)
+lowerSet m ys ss s = fold (lowerSetStep m ys ss s) 1 (selects m)
 
 -- DEFAULT'S SET: a default's value where its condition may be above n, and what comes later where it may be n
 unfoldable pub chooseSet : ℕ → ℕ → ℕ → ℕ
 chooseSet cond value later = join (pick (has cond 1 || has cond 2) value 0) (pick (has cond 0) later 0)
 
-unfoldable pub defaultSet : List ℕ → List ℕ → ℕ → ℕ
-defaultSet m ss s =
-    fold
-    (λ j later.
+unfoldable pub defaultSetStep : List ℕ → List ℕ → ℕ → ℕ → ℕ → ℕ
+defaultSetStep m ss s j later =
     let d = defaults m - suc j in
-    pick (eqb (defaultSymbol m d) s) (chooseSet (sat ss (defaultCondition m d)) (sat ss (defaultValue m d)) later) later)
-    1 (defaults m)
+    pick (eqb (defaultSymbol m d) s) (chooseSet (sat ss (defaultCondition m d)) (sat ss (defaultValue m d)) later) later
+
+unfoldable pub defaultSet : List ℕ → List ℕ → ℕ → ℕ
+defaultSet m ss s = fold (defaultSetStep m ss s) 1 (defaults m)
 
 -- a symbol's prompt and dependency
 unfoldable pub promptSet : List ℕ → List ℕ → ℕ → ℕ
@@ -133,5 +136,5 @@ dependSet m ss s = sat ss (dependOf m s)
 
 -- names every definition of this file: who says `unfolding openSets` has them all
 unfoldable pub openSets : Unit {0}
-unfolding has setOf only full withOne join row pairs every least most fullSets leafSet isFree spelledAt equalAt equalSet notSet nodeSet nodeSets givenSet lowerSet chooseSet defaultSet promptSet dependSet
+unfolding has setOf only full withOne join row pairs every least most fullSets leafSet isFree spelledAt equalAt equalSet notSet nodeSet nodeSets givenSet lowerSetStep lowerSet chooseSet defaultSetStep defaultSet promptSet dependSet
 openSets = tt

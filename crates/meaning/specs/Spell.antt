@@ -7,7 +7,7 @@ use Rattle.meaning.specs.Base.{pick}
 use Rattle.meaning.specs.Table.{Content, aThree, aText, anInt, aHex}
 
 -- 0 to 9, then a to f
-unfoldable pub digit : ℕ → ℕ
+abbrev pub digit : ℕ → ℕ
 digit d = pick (ltb d 10) (48 + d) (87 + d)
 
 -- n in the base b by at most f digits, in front of what follows: no leading zero, and zero is one digit
@@ -18,19 +18,19 @@ digits b (suc f) n rest =
     pick (ltb n b) (digit (n % b) ∷ rest) more
 
 -- the letter n, m or y
-unfoldable pub letter : ℕ → ℕ
+abbrev pub letter : ℕ → ℕ
 letter v = pick (eqb v 0) 110 (pick (eqb v 1) 109 121)
 
-unfoldable pub spelledThree : ℕ → List ℕ
+abbrev pub spelledThree : ℕ → List ℕ
 spelledThree v = letter v ∷ []
 
 -- decimal, with a minus sign before a negative number: 32 bits need at most 10 digits
-unfoldable pub spelledInt : ℤ → List ℕ
+abbrev pub spelledInt : ℤ → List ℕ
 spelledInt (pos n) = digits 10 12 n []
 spelledInt (negsuc n) = 45 ∷ digits 10 12 (suc n) []
 
 -- 0x and lower-case digits
-unfoldable pub spelledHex : ℕ → List ℕ
+abbrev pub spelledHex : ℕ → List ℕ
 spelledHex n = 48 ∷ 120 ∷ digits 16 12 n []
 
 abbrev pub spelled : Content → List ℕ
@@ -41,5 +41,5 @@ spelled (aHex h) = spelledHex h
 
 -- names every definition of this file: who says `unfolding openSpell` has them all
 unfoldable pub openSpell : Unit {0}
-unfolding digit digits letter spelledThree spelledInt spelledHex
+unfolding digits
 openSpell = tt

@@ -11,7 +11,7 @@ use Rattle.meaning.specs.Table.{Content, aThree, aText, anInt, aHex, sig
 use Rattle.meaning.specs.Spell.{spelled}
 
 -- LEAVES. The 32 bits of a number: left has the low half, right the high
-unfoldable pub numberOf : List ℕ → ℕ → ℕ
+abbrev pub numberOf : List ℕ → ℕ → ℕ
 numberOf m i = leftOf m i + 65536 * rightOf m i
 
 -- what a leaf stands for: a constant, a symbol's entry in the table, a text, an int, a hex
@@ -25,11 +25,11 @@ leafOf m t i =
     (pick (eqb op 4) (aHex (numberOf m i)) (aThree 0)))))
 
 -- its value: n for a text, a number, and a symbol of another kind
-unfoldable pub leafValue : List ℕ → List ℕ → ℕ → ℕ
+abbrev pub leafValue : List ℕ → List ℕ → ℕ → ℕ
 leafValue m t i = threeIn (leafOf m t i)
 
 -- y or n
-unfoldable pub yesNo : Bool → ℕ
+abbrev pub yesNo : Bool → ℕ
 yesNo b = pick b 2 0
 
 -- equality of two leaves compares how they are spelled
@@ -59,11 +59,14 @@ unfoldable pub nodeValues : List ℕ → List ℕ → List ℕ
 nodeValues m t = build (nodeValue m t) (nodes m)
 
 -- LOWER of s: the largest, over the selects on it, of what each gives; n if there is none
+unfoldable pub lowerStep : List ℕ → (ℕ → ℕ) → ℕ → ℕ → ℕ → ℕ
+lowerStep m gives s k low = pick (eqb (targetOf m k) s) (orOf low (gives k)) low
+
 unfoldable pub lowerFrom : List ℕ → (ℕ → ℕ) → ℕ → ℕ
-lowerFrom m gives s = fold (λ k low. pick (eqb (targetOf m k) s) (orOf low (gives k)) low) 0 (selects m)
+lowerFrom m gives s = fold (lowerStep m gives s) 0 (selects m)
 
 -- a select gives the smaller of selector and condition
-unfoldable pub given : List ℕ → List ℕ → List ℕ → ℕ → ℕ
+abbrev pub given : List ℕ → List ℕ → List ℕ → ℕ → ℕ
 given m t vs k = andOf (valueOf t (selectorOf m k)) (val vs (conditionOf m k))
 
 unfoldable pub lowerOf : List ℕ → List ℕ → List ℕ → ℕ → ℕ
@@ -72,15 +75,15 @@ lowerOf m t vs s = lowerFrom m (given m t vs) s
 -- DEFAULT of s: what the first default on it, in section order, has whose condition is above n. They are taken from the last to the
 -- first, so that an earlier one covers a later one
 module _ {A : Type 0} where
-  unfoldable pub defaultFrom : List ℕ → (ℕ → ℕ) → (ℕ → A) → A → ℕ → A
-  defaultFrom m cond has none s =
-      fold
-      (λ j later.
+  unfoldable pub defaultStep : List ℕ → (ℕ → ℕ) → (ℕ → A) → ℕ → ℕ → A → A
+  defaultStep m cond has s j later =
       let d = defaults m - suc j in
-      pick (eqb (defaultSymbol m d) s) (pick (ltb 0 (cond d)) (has d) later) later)
-      none (defaults m)
+      pick (eqb (defaultSymbol m d) s) (pick (ltb 0 (cond d)) (has d) later) later
 
-unfoldable pub conditionValue : List ℕ → List ℕ → ℕ → ℕ
+  unfoldable pub defaultFrom : List ℕ → (ℕ → ℕ) → (ℕ → A) → A → ℕ → A
+  defaultFrom m cond has none s = fold (defaultStep m cond has s) none (defaults m)
+
+abbrev pub conditionValue : List ℕ → List ℕ → ℕ → ℕ
 conditionValue m vs d = val vs (defaultCondition m d)
 
 -- of a boolean or tristate symbol the value, n if there is none
@@ -92,13 +95,13 @@ unfoldable pub defaultContent : List ℕ → List ℕ → List ℕ → ℕ → C
 defaultContent m t vs s = defaultFrom m (conditionValue m vs) (λ d. leafOf m t (defaultValue m d)) (aText []) s
 
 -- the values of a symbol's prompt and of its dependency
-unfoldable pub promptValue : List ℕ → List ℕ → ℕ → ℕ
+abbrev pub promptValue : List ℕ → List ℕ → ℕ → ℕ
 promptValue m vs s = val vs (promptOf m s)
 
-unfoldable pub dependValue : List ℕ → List ℕ → ℕ → ℕ
+abbrev pub dependValue : List ℕ → List ℕ → ℕ → ℕ
 dependValue m vs s = val vs (dependOf m s)
 
 -- names every definition of this file: who says `unfolding openValues` has them all
 unfoldable pub openValues : Unit {0}
-unfolding numberOf leafOf leafValue yesNo equalValue nodeValue nodeValues lowerFrom given lowerOf defaultFrom conditionValue defaultOf defaultContent promptValue dependValue
+unfolding leafOf equalValue nodeValue nodeValues lowerStep lowerFrom lowerOf defaultStep defaultFrom defaultOf defaultContent
 openValues = tt

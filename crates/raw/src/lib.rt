@@ -40,7 +40,7 @@ pub fn half(s: &[u8], i: usize) -> usize
 }
 
 // Two halves as a number, the lower first.
-fn joined_halves(low: usize, high: usize) -> u32
+pub fn joined_halves(low: usize, high: usize) -> u32
     requires { ⌜ (low < 65536) × (high < 65536) ⌝ }
     ensures { λ r. ⌜ (r ≡ low + 65536 * high) × (r < 4294967296) ⌝ }
 {

@@ -1,0 +1,61 @@
+-- `values::default_leaf` meets its contract: it folds the defaults from the last to the first.
+use Prim.Native.Nat.{_≤_, _-_}
+use native.Mathlib.Omega.{arith}
+use mathlib.Core.Path.{_≡_, refl, sym, _∙_, ap}
+use mathlib.Core.List.{[]}
+use Rattle.spell.specs.Leaves.{leafContent}
+use Rattle.meaning.specs.Table.{aText}
+use Rattle.meaning.specs.Book.{defaultValue}
+use Rattle.meaning.specs.Base.{fold, part}
+use Rattle.meaning.proofs.Folds.{fold-none, fold-more}
+use Rattle.meaning.specs.Values.{leafOf, conditionValue, defaultStep, defaultFrom, defaultContent}
+use borrow.Author.Needs.{needs}
+use Rattle.values.proofs.default_leaf.Statement.{statement}
+use Rattle.values.proofs.default_leaf.Tie as tie
+use Rattle.values.proofs.default_leaf.Reads as reads
+use Rattle.values.proofs.default_leaf.Lts as lts
+use Rattle.fields.proofs.defaults.Reads as defaults-reads
+use Rattle.values.proofs.covered_leaf.Reads as covered-leaf-reads
+
+abbrev Inv-loop : tie.InvT-loop
+Inv-loop m t vs s n later₀ j₀ later j = (j ≤ n) × (leafContent m t later ≡ fold (defaultStep m (conditionValue m vs) (λ d. leafOf m t (defaultValue m d)) s) (aText []) j)
+
+abbrev μ-loop : tie.MeasureT-loop
+μ-loop m t vs s n later₀ j₀ later j = n - j
+
+defaults-requires : tie.Need-defaults-requires Inv-loop μ-loop
+defaults-requires c κs = search needs
+
+loop-holds : tie.Need-loop-holds Inv-loop μ-loop
+unfolding part
+loop-holds c = (omega arith, fold-none _ _)
+
+covered-leaf-requires : tie.Need-covered-leaf-requires Inv-loop μ-loop
+covered-leaf-requires c κs = search needs
+
+add-j : tie.Need-add-j Inv-loop μ-loop
+add-j c = search needs
+
+loop-less : tie.Need-loop-less Inv-loop μ-loop
+loop-less c = search needs
+
+loop-again : tie.Need-loop-again Inv-loop μ-loop
+loop-again c = (omega arith, fold-more _ _ _ (c .before .before .loop .inv .1) (c .covered-leaf .ensures))
+
+returns : tie.Need-returns Inv-loop μ-loop
+unfolding defaultContent defaultFrom
+returns c = let e : c .before .loop .j ≡ c .before .before .defaults .result = omega arith in rw (e, c .before .before .defaults .ensures .0) at (c .before .loop .inv .1)
+
+pub default-leaf-spec : {M : Type 1} → statement M
+default-leaf-spec =
+    tie.close
+    (tie.spec
+    Inv-loop
+    μ-loop
+    defaults-requires
+    loop-holds
+    covered-leaf-requires
+    add-j
+    loop-less
+    loop-again
+    returns)
