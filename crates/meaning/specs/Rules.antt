@@ -17,30 +17,29 @@ use Rattle.meaning.specs.Values.{val, leafOf, nodeValues, lowerOf, defau
 
 -- WHAT BREAKS A RULE, over the values that it reads: a table's own, or one pick of each
 -- 10: the kind that a type takes; no m on a boolean; int and hex may be the empty string
-unfoldable pub isEmpty : List ℕ → Bool
-isEmpty [] = true
-isEmpty (x ∷ l) = false
+abbrev pub isEmpty : List ℕ → Bool
+isEmpty l = eqb (length l) 0
 
 abbrev pub typeFits : ℕ → Content → Bool
-typeFits y (aThree v) = pick (eqb y 0) (not (eqb v 1)) (eqb y 1)
+typeFits y (aThree v) = (eqb y 0 && not (eqb v 1)) || eqb y 1
 typeFits y (aText l) = eqb y 2 || ((eqb y 3 || eqb y 4) && isEmpty l)
 typeFits y (anInt z) = eqb y 3
 typeFits y (aHex h) = eqb y 4
 
 -- 11: value v below Lower l
-unfoldable pub broken11 : ℕ → ℕ → Bool
+abbrev pub broken11 : ℕ → ℕ → Bool
 broken11 v l = ltb v l
 
 -- 12: prompt p above n and not below l, value above the prompt
-unfoldable pub broken12 : ℕ → ℕ → ℕ → Bool
+abbrev pub broken12 : ℕ → ℕ → ℕ → Bool
 broken12 v p l = ltb 0 p && leb l p && ltb p v
 
 -- 13: prompt n, and the value is not the larger of Default d and Lower
-unfoldable pub broken13 : ℕ → ℕ → ℕ → ℕ → Bool
+abbrev pub broken13 : ℕ → ℕ → ℕ → ℕ → Bool
 broken13 v p d l = eqb p 0 && not (eqb v (orOf d l))
 
 -- 13 of a string, int or hex: kind and content compared
-unfoldable pub sameInt : ℤ → ℤ → Bool
+abbrev pub sameInt : ℤ → ℤ → Bool
 sameInt a b = leZ a b && leZ b a
 
 abbrev pub sameContent : Content → Content → Bool
@@ -61,7 +60,7 @@ sameContent (aHex g) (aText k) = false
 sameContent (aHex g) (anInt b) = false
 sameContent (aHex g) (aHex h) = eqb g h
 
-unfoldable pub broken13Content : Content → ℕ → Content → Bool
+abbrev pub broken13Content : Content → ℕ → Content → Bool
 broken13Content v p d = eqb p 0 && not (sameContent v d)
 
 -- 14: low to high, both ends in, ints signed and hexes not; what is empty lies in no range
@@ -83,67 +82,46 @@ within low high (aText l) = false
 within low high (anInt z) = intIs (λ a. leZ a z) low && intIs (λ b. leZ z b) high
 within low high (aHex h) = hexIs (λ a. leb a h) low && hexIs (λ b. leb h b) high
 
-unfoldable pub broken14 : Content → ℕ → Content → Content → Bool
+abbrev pub broken14 : Content → ℕ → Content → Content → Bool
 broken14 v c low high = ltb 0 c && not (within low high v)
 
 -- 15: choice prompt p above n, a member y, another above n; `some` members are above n, `ys` are y
-unfoldable pub broken15 : ℕ → ℕ → ℕ → Bool
+abbrev pub broken15 : ℕ → ℕ → ℕ → Bool
 broken15 p some ys = ltb 0 p && leb 2 some && leb 1 ys
 
 -- 16: choice prompt above n, boolean, `ms` members m
-unfoldable pub broken16 : ℕ → ℕ → ℕ → Bool
+abbrev pub broken16 : ℕ → ℕ → ℕ → Bool
 broken16 p kind ms = ltb 0 p && eqb kind 0 && leb 1 ms
 
 -- 17: choice prompt above n, mandatory, no member above n
-unfoldable pub broken17 : ℕ → ℕ → ℕ → Bool
+abbrev pub broken17 : ℕ → ℕ → ℕ → Bool
 broken17 p mandatory some = ltb 0 p && eqb mandatory 1 && eqb some 0
 
 -- 18: the modules symbol o is n, the symbol m
-unfoldable pub broken18 : ℕ → ℕ → Bool
+abbrev pub broken18 : ℕ → ℕ → Bool
 broken18 o v = eqb o 0 && eqb v 1
 
 -- a select is unmet where the smaller of selector a and condition c exceeds the target's dependency d
-unfoldable pub exceeds : ℕ → ℕ → ℕ → Bool
+abbrev pub exceeds : ℕ → ℕ → ℕ → Bool
 exceeds a c d = ltb d (andOf a c)
 
 -- how many of n members are at least k, by the value of each
 unfoldable pub atLeast : (ℕ → ℕ) → ℕ → ℕ → ℕ
 atLeast member n k = countBelow (λ j. leb k (member j)) n
 
--- THE RULES IN A TABLE t whose node values are vs
-module _ (m t vs : List ℕ) where
+-- 11, 12 and 13 in turn, at symbol s
+unfoldable pub threeTests : ℕ → ℕ → ℕ → ℕ → ℕ → Outcome
+threeTests s v p d l =
+    orElse (when (broken11 v l) (Fault 11 s 65535))
+    (orElse (when (broken12 v p l) (Fault 12 s 65535)) (when (broken13 v p d l) (Fault 13 s 65535)))
+
+-- THE RULES IN A TABLE t
+module _ (m t : List ℕ) where
   unfoldable pub test10 : ℕ → Outcome
   test10 s = when (not (typeFits (typeOf m s) (contentOf t s))) (Fault 10 s 65535)
 
-  unfoldable pub test11 : ℕ → Outcome
-  test11 s = when (threeType m s && broken11 (valueOf t s) (lowerOf m t vs s)) (Fault 11 s 65535)
-
-  unfoldable pub test12 : ℕ → Outcome
-  test12 s = when (threeType m s && broken12 (valueOf t s) (promptValue m vs s) (lowerOf m t vs s)) (Fault 12 s 65535)
-
-  unfoldable pub test13 : ℕ → Outcome
-  test13 s =
-      when
-      (pick (threeType m s) (broken13 (valueOf t s) (promptValue m vs s) (defaultOf m vs s) (lowerOf m t vs s))
-      (broken13Content (contentOf t s) (promptValue m vs s) (defaultContent m t vs s)))
-      (Fault 13 s 65535)
-
-  -- range r, if it is on s
-  unfoldable pub test14 : ℕ → ℕ → Outcome
-  test14 s r =
-      when
-      (eqb (rangeSymbol m r) s && broken14 (contentOf t s) (val vs (rangeCondition m r)) (leafOf m t (lowOf m r)) (leafOf m t (highOf m r)))
-      (Fault 14 s r)
-
-  unfoldable pub symbolFault : ℕ → Outcome
-  symbolFault s =
-      let inRanges = firstBelow (test14 s) (ranges m) in
-      let from13 = orElse (test13 s) inRanges in
-      let from12 = orElse (test12 s) from13 in
-      orElse (test11 s) from12
-
   -- the value of choice c's member j, and how many members are above n, y, or m
-  unfoldable pub memberValue : ℕ → ℕ → ℕ
+  abbrev pub memberValue : ℕ → ℕ → ℕ
   memberValue c j = valueOf t (memberOf m c j)
 
   unfoldable pub someOf : ℕ → ℕ
@@ -167,38 +145,62 @@ module _ (m t vs : List ℕ) where
   unfoldable pub firstModule : ℕ → ℕ
   firstModule c = firstWhere (λ j. eqb (memberValue c j) 1) (memberCount m c)
 
-  unfoldable pub choiceValue : ℕ → ℕ
-  choiceValue c = val vs (choicePrompt m c)
-
-  unfoldable pub test15 : ℕ → Outcome
-  test15 c = when (broken15 (choiceValue c) (someOf c) (ysOf c)) (Fault 15 c (memberOf m c (otherOf c)))
-
-  unfoldable pub test16 : ℕ → Outcome
-  test16 c = when (broken16 (choiceValue c) (choiceKind m c) (msOf c)) (Fault 16 c (memberOf m c (firstModule c)))
-
-  unfoldable pub test17 : ℕ → Outcome
-  test17 c = when (broken17 (choiceValue c) (mandatoryOf m c) (someOf c)) (Fault 17 c 65535)
-
-  unfoldable pub choiceFault : ℕ → Outcome
-  choiceFault c =
-      let in17 = test17 c in
-      let from16 = orElse (test16 c) in17 in
-      orElse (test15 c) from16
-
   unfoldable pub test18 : ℕ → Outcome
   test18 s = when (modulesDeclared m && broken18 (valueOf t (modulesOf m)) (valueOf t s)) (Fault 18 s 65535)
 
-  -- the first broken rule: 10 for all symbols; 11 to 14 symbol by symbol; 15 to 17 choice by choice; 18
-  unfoldable pub rulesFault : Outcome
-  rulesFault =
-      let in18 = firstBelow test18 (symbols m) in
-      let fromChoices = orElse (firstBelow choiceFault (choices m)) in18 in
-      let fromSymbols = orElse (firstBelow symbolFault (symbols m)) fromChoices in
-      orElse (firstBelow test10 (symbols m)) fromSymbols
+  -- whose node values are vs
+  module _ (vs : List ℕ) where
+    -- 11, 12 and 13 of a boolean or tristate symbol; 13 of another
+    unfoldable pub threeFault : ℕ → Outcome
+    threeFault s = threeTests s (valueOf t s) (promptValue m vs s) (defaultOf m vs s) (lowerOf m t vs s)
 
-  -- select k: unmet in this table
-  unfoldable pub unmetIn : ℕ → Bool
-  unmetIn k = exceeds (valueOf t (selectorOf m k)) (val vs (conditionOf m k)) (dependValue m vs (targetOf m k))
+    unfoldable pub otherFault : ℕ → Outcome
+    otherFault s =
+        when (broken13Content (contentOf t s) (promptValue m vs s) (defaultContent m t vs s)) (Fault 13 s 65535)
+
+    -- 14 by range r, if it is on s
+    unfoldable pub test14 : ℕ → ℕ → Outcome
+    test14 s r =
+        when
+        (eqb (rangeSymbol m r) s && broken14 (contentOf t s) (val vs (rangeCondition m r)) (leafOf m t (lowOf m r)) (leafOf m t (highOf m r)))
+        (Fault 14 s r)
+
+    unfoldable pub symbolFault : ℕ → Outcome
+    symbolFault s =
+        let inRanges = firstBelow (test14 s) (ranges m) in
+        let three = threeFault s in
+        let other = otherFault s in
+        orElse (pick (threeType m s) three other) inRanges
+
+    abbrev pub choiceValue : ℕ → ℕ
+    choiceValue c = val vs (choicePrompt m c)
+
+    unfoldable pub test15 : ℕ → Outcome
+    test15 c = when (broken15 (choiceValue c) (someOf c) (ysOf c)) (Fault 15 c (memberOf m c (otherOf c)))
+
+    unfoldable pub test16 : ℕ → Outcome
+    test16 c = when (broken16 (choiceValue c) (choiceKind m c) (msOf c)) (Fault 16 c (memberOf m c (firstModule c)))
+
+    unfoldable pub test17 : ℕ → Outcome
+    test17 c = when (broken17 (choiceValue c) (mandatoryOf m c) (someOf c)) (Fault 17 c 65535)
+
+    unfoldable pub choiceFault : ℕ → Outcome
+    choiceFault c =
+        let in17 = test17 c in
+        let from16 = orElse (test16 c) in17 in
+        orElse (test15 c) from16
+
+    -- the first broken rule: 10 for all symbols; 11 to 14 symbol by symbol; 15 to 17 choice by choice; 18
+    unfoldable pub rulesFault : Outcome
+    rulesFault =
+        let in18 = firstBelow test18 (symbols m) in
+        let fromChoices = orElse (firstBelow choiceFault (choices m)) in18 in
+        let fromSymbols = orElse (firstBelow symbolFault (symbols m)) fromChoices in
+        orElse (firstBelow test10 (symbols m)) fromSymbols
+
+    -- select k: unmet in this table
+    unfoldable pub unmetIn : ℕ → Bool
+    unmetIn k = exceeds (valueOf t (selectorOf m k)) (val vs (conditionOf m k)) (dependValue m vs (targetOf m k))
 
 -- THE VERDICT
 unfoldable pub ruleFault : List ℕ → List ℕ → Outcome
@@ -227,5 +229,5 @@ nodeWork m t w = let filled = nodeValues m t ++ drop (nodes m) w in ifClean (ref
 
 -- opens this file and those under it: who says `unfolding openRules` can compute a verdict
 unfoldable pub openRules : Unit {0}
-unfolding openBase openBook openTable openSpell openValues isEmpty broken11 broken12 broken13 sameInt broken13Content broken14 broken15 broken16 broken17 broken18 exceeds atLeast test10 test11 test12 test13 test14 symbolFault memberValue someOf ysOf msOf firstYes otherOf firstModule choiceValue test15 test16 test17 choiceFault test18 rulesFault unmetIn ruleFault unmet nodeRoomFault refusal verdict nodeWork
+unfolding openBase openBook openTable openSpell openValues atLeast threeTests test10 threeFault otherFault test14 symbolFault someOf ysOf msOf firstYes otherOf firstModule test15 test16 test17 choiceFault test18 rulesFault unmetIn ruleFault unmet nodeRoomFault refusal verdict nodeWork
 openRules = tt

@@ -23,7 +23,7 @@ use Rattle.spell.specs.declared.Leaf.{Leaf}
 use Rattle.spell.specs.Leaves.{leafContent, leafOfValue, spelledLeaf}
 
 -- an entry's value stands for the same as a leaf
-as-leaf : (m t : List ℕ) (w : Value) → leafContent m t (leafOfValue w) ≡ contentIn t w
+pub as-leaf : (m t : List ℕ) (w : Value) → leafContent m t (leafOfValue w) ≡ contentIn t w
 as-leaf m t (Three v) = refl
 as-leaf m t (Text at n) = refl
 as-leaf m t (Int z) = refl

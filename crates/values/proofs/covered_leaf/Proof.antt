@@ -33,10 +33,10 @@ leaf-requires : tie.Need-leaf-requires
 leaf-requires c κs = search needs
 
 returns : tie.Need-returns
-returns c = default-applies (c .before .before .before .before .before .before .before .before .args .m .now) (conditionValue (c .before .before .before .before .before .before .before .before .args .m .now) (c .before .before .before .before .before .before .before .before .args .vs .now)) (λ d. leafOf (c .before .before .before .before .before .before .before .before .args .m .now) (c .before .before .before .before .before .before .before .before .args .t .now) (defaultValue (c .before .before .before .before .before .before .before .before .args .m .now) d)) (c .before .before .before .before .before .before .before .before .args .s) (c .before .before .before .before .before .before .before .before .args .j) (leafContent (c .before .before .before .before .before .before .before .before .args .m .now) (c .before .before .before .before .before .before .before .before .args .t .now) (c .before .before .before .before .before .before .before .before .args .later)) (c .before .before .before .before .defaults .ensures .0) (c .before .before .before .applies .ensures)  (c .before .before .if1 .taken) (c .leaf .ensures ∙ rw (c .before .default-value .ensures .0))
+returns c = default-applies (c .before .before .before .before .before .before .before .before .args .m .now) (conditionValue (c .before .before .before .before .before .before .before .before .args .m .now) (c .before .before .before .before .before .before .before .before .args .vs .now)) (λ d. leafOf (c .before .before .before .before .before .before .before .before .args .m .now) (c .before .before .before .before .before .before .before .before .args .t .now) (defaultValue (c .before .before .before .before .before .before .before .before .args .m .now) d)) (c .before .before .before .before .before .before .before .before .args .s) (c .before .before .before .before .before .before .before .before .args .j) (leafContent (c .before .before .before .before .before .before .before .before .args .m .now) (c .before .before .before .before .before .before .before .before .args .t .now) (c .before .before .before .before .before .before .before .before .args .later)) (c .before .before .before .before .defaults .ensures .0) (c .before .before .before .applies .ensures) (c .before .before .if1 .taken) (c .leaf .ensures ∙ rw (c .before .default-value .ensures .0))
 
 returns-2 : tie.Need-returns-2
-returns-2 c = default-kept (c .before .before .before .before .before .before .args .m .now) (conditionValue (c .before .before .before .before .before .before .args .m .now) (c .before .before .before .before .before .before .args .vs .now)) (λ d. leafOf (c .before .before .before .before .before .before .args .m .now) (c .before .before .before .before .before .before .args .t .now) (defaultValue (c .before .before .before .before .before .before .args .m .now) d)) (c .before .before .before .before .before .before .args .s) (c .before .before .before .before .before .before .args .j) (leafContent (c .before .before .before .before .before .before .args .m .now) (c .before .before .before .before .before .before .args .t .now) (c .before .before .before .before .before .before .args .later)) (c .before .before .defaults .ensures .0) (c .before .applies .ensures)  (c .if1 .left)
+returns-2 c = default-kept (c .before .before .before .before .before .before .args .m .now) (conditionValue (c .before .before .before .before .before .before .args .m .now) (c .before .before .before .before .before .before .args .vs .now)) (λ d. leafOf (c .before .before .before .before .before .before .args .m .now) (c .before .before .before .before .before .before .args .t .now) (defaultValue (c .before .before .before .before .before .before .args .m .now) d)) (c .before .before .before .before .before .before .args .s) (c .before .before .before .before .before .before .args .j) (leafContent (c .before .before .before .before .before .before .args .m .now) (c .before .before .before .before .before .before .args .t .now) (c .before .before .before .before .before .before .args .later)) (c .before .before .defaults .ensures .0) (c .before .applies .ensures) (c .if1 .left)
 
 pub covered-leaf-spec : {M : Type 1} → statement M
 covered-leaf-spec =

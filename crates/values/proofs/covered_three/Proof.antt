@@ -32,10 +32,10 @@ at-requires : tie.Need-at-requires
 at-requires c κs = search needs
 
 returns : tie.Need-returns
-returns c = default-applies (c .before .before .before .before .before .before .before .args .m .now) (conditionValue (c .before .before .before .before .before .before .before .args .m .now) (c .before .before .before .before .before .before .before .args .vs .now)) (λ d. val (c .before .before .before .before .before .before .before .args .vs .now) (defaultValue (c .before .before .before .before .before .before .before .args .m .now) d)) (c .before .before .before .before .before .before .before .args .s) (c .before .before .before .before .before .before .before .args .j) (c .before .before .before .before .before .before .before .args .later .v) (c .before .before .before .before .defaults .ensures .0) (c .before .before .before .applies .ensures)  (c .before .before .if1 .taken) (c .at .ensures ∙ rw (c .before .default-value .ensures .0))
+returns c = default-applies (c .before .before .before .before .before .before .before .args .m .now) (conditionValue (c .before .before .before .before .before .before .before .args .m .now) (c .before .before .before .before .before .before .before .args .vs .now)) (λ d. val (c .before .before .before .before .before .before .before .args .vs .now) (defaultValue (c .before .before .before .before .before .before .before .args .m .now) d)) (c .before .before .before .before .before .before .before .args .s) (c .before .before .before .before .before .before .before .args .j) (c .before .before .before .before .before .before .before .args .later .v) (c .before .before .before .before .defaults .ensures .0) (c .before .before .before .applies .ensures) (c .before .before .if1 .taken) (c .at .ensures ∙ rw (c .before .default-value .ensures .0))
 
 returns-2 : tie.Need-returns-2
-returns-2 c = default-kept (c .before .before .before .before .before .args .m .now) (conditionValue (c .before .before .before .before .before .args .m .now) (c .before .before .before .before .before .args .vs .now)) (λ d. val (c .before .before .before .before .before .args .vs .now) (defaultValue (c .before .before .before .before .before .args .m .now) d)) (c .before .before .before .before .before .args .s) (c .before .before .before .before .before .args .j) (c .before .before .before .before .before .args .later .v) (c .before .before .defaults .ensures .0) (c .before .applies .ensures)  (c .if1 .left)
+returns-2 c = default-kept (c .before .before .before .before .before .args .m .now) (conditionValue (c .before .before .before .before .before .args .m .now) (c .before .before .before .before .before .args .vs .now)) (λ d. val (c .before .before .before .before .before .args .vs .now) (defaultValue (c .before .before .before .before .before .args .m .now) d)) (c .before .before .before .before .before .args .s) (c .before .before .before .before .before .args .j) (c .before .before .before .before .before .args .later .v) (c .before .before .defaults .ensures .0) (c .before .applies .ensures) (c .if1 .left)
 
 pub covered-three-spec : {M : Type 1} → statement M
 covered-three-spec =

@@ -1,0 +1,263 @@
+// Rules 10 to 14 at one symbol.
+//
+// Total over any bytes: `vs` has the nodes' values. A symbol's number is below 2^16.
+ghost use mathlib.Core.Path.{_≡_};
+ghost use Prim.Native.Nat.{ℕ, _<_, _^_};
+ghost use lib.Dec.{leb};
+ghost use lib.Signed.{leZ};
+ghost use Rattle.meaning.specs.Base.{pick, firstBelow};
+ghost use Rattle.meaning.specs.Table.{contentIn, aThree, aText, anInt, aHex};
+ghost use Rattle.meaning.specs.Book.{ranges as rangesOf, threeType};
+ghost use Rattle.meaning.specs.Rules.{typeFits, sameContent, threeTests, test10, threeFault, otherFault, test14, symbolFault};
+ghost use Rattle.spell.specs.Leaves.{leafContent};
+ghost use Rattle.symbol_rules.specs.Leaves.{leafInt, leafHex, leafWithin};
+use meaning::Outcome;
+use meaning::Value;
+use spell::Leaf;
+use tri::Tri;
+
+// Whether type y takes the value v of table t: m is no boolean's, and an int or a hex may be the empty string.
+fn type_fits(t: &[u8], y: u8, v: Value) -> bool
+    ensures { λ r. ⌜ r ≡ typeFits y (contentIn (now (t .entry)) v) ⌝ }
+{
+    match v {
+        Value::Three(x) => ((y == 0) & (x != 1)) | (y == 1),
+        Value::Text(at, n) => (y == 2) | (((y == 3) | (y == 4)) & (raw::part(t, at, n).len() == 0)),
+        Value::Int(_) => y == 3,
+        Value::Hex(_) => y == 4,
+    }
+}
+
+// 10 at s, if its entry does not fit its type.
+pub fn type_fault(m: &[u8], t: &[u8], s: usize) -> Outcome
+    requires { ⌜ s < 65536 ⌝ }
+    ensures { λ r. ⌜ r ≡ test10 (now (m .entry)) (now (t .entry)) s ⌝ }
+{
+    let bad = !type_fits(t, fields::type_of(m, s), entries::value(t, s));
+    raw::fault_if(bad, 10, s, 65535)
+}
+
+// 11, 12 and 13 in turn, of a boolean or tristate symbol with this value, prompt, Default and Lower.
+fn three_tests(s: usize, v: Tri, p: Tri, d: Tri, low: Tri) -> Outcome
+    requires { ⌜ s < 65536 ⌝ }
+    ensures { λ r. ⌜ r ≡ threeTests s (v .v) (p .v) (d .v) (low .v) ⌝ }
+{
+    let below = raw::fault_if(v.v < low.v, 11, s, 65535);
+    if let Outcome::Fault(_, _, _) = below {
+        return below;
+    }
+    let above = raw::fault_if((0 < p.v) & (low.v <= p.v) & (p.v < v.v), 12, s, 65535);
+    if let Outcome::Fault(_, _, _) = above {
+        return above;
+    }
+    let owed = d.or(low);
+    raw::fault_if((p.v == 0) & (v.v != owed.v), 13, s, 65535)
+}
+
+// 11, 12 or 13 at s, a boolean or tristate symbol.
+fn three_fault(m: &[u8], t: &[u8], vs: &[u8], s: usize) -> Outcome
+    requires { ⌜ s < 65536 ⌝ }
+    ensures { λ r. ⌜ r ≡ threeFault (now (m .entry)) (now (t .entry)) (now (vs .entry)) s ⌝ }
+{
+    let v = entries::three(t, s);
+    let p = values::at(vs, fields::prompt_of(m, s));
+    let d = values::default_three(m, vs, s);
+    let low = values::lower(m, t, vs, s);
+    three_tests(s, v, p, d, low)
+}
+
+// Whether leaf b is the value v.
+fn same_three(m: &[u8], t: &[u8], v: u8, b: Leaf) -> bool
+    ensures { λ r. ⌜ r ≡ sameContent (aThree v) (leafContent (now (m .entry)) (now (t .entry)) b) ⌝ }
+{
+    match b {
+        Leaf::Three(w) => v == w,
+        Leaf::Note(_, _) => false,
+        Leaf::Text(_, _) => false,
+        Leaf::Int(_) => false,
+        Leaf::Hex(_) => false,
+    }
+}
+
+// Whether leaf b is the text x.
+fn same_text(x: &[u8], m: &[u8], t: &[u8], b: Leaf) -> bool
+    ensures { λ r. ⌜ r ≡ sameContent (aText (now (x .entry))) (leafContent (now (m .entry)) (now (t .entry)) b) ⌝ }
+{
+    match b {
+        Leaf::Three(_) => false,
+        Leaf::Note(at, n) => raw::same(x, raw::part(m, at, n)),
+        Leaf::Text(at, n) => raw::same(x, raw::part(t, at, n)),
+        Leaf::Int(_) => false,
+        Leaf::Hex(_) => false,
+    }
+}
+
+// Whether leaf b is the int z.
+fn same_int(m: &[u8], t: &[u8], z: i32, b: Leaf) -> bool
+    ensures { λ r. ⌜ r ≡ sameContent (anInt z) (leafContent (now (m .entry)) (now (t .entry)) b) ⌝ }
+{
+    match b {
+        Leaf::Three(_) => false,
+        Leaf::Note(_, _) => false,
+        Leaf::Text(_, _) => false,
+        Leaf::Int(w) => (z <= w) & (w <= z),
+        Leaf::Hex(_) => false,
+    }
+}
+
+// Whether leaf b is the hex h.
+fn same_hex(m: &[u8], t: &[u8], h: u32, b: Leaf) -> bool
+    ensures { λ r. ⌜ r ≡ sameContent (aHex h) (leafContent (now (m .entry)) (now (t .entry)) b) ⌝ }
+{
+    match b {
+        Leaf::Three(_) => false,
+        Leaf::Note(_, _) => false,
+        Leaf::Text(_, _) => false,
+        Leaf::Int(_) => false,
+        Leaf::Hex(w) => h == w,
+    }
+}
+
+// Whether two leaves are of one kind and content.
+fn same_content(m: &[u8], t: &[u8], a: Leaf, b: Leaf) -> bool
+    ensures { λ r. ⌜ r ≡ sameContent (leafContent (now (m .entry)) (now (t .entry)) a) (leafContent (now (m .entry)) (now (t .entry)) b) ⌝ }
+{
+    match a {
+        Leaf::Three(v) => same_three(m, t, v, b),
+        Leaf::Note(at, n) => same_text(raw::part(m, at, n), m, t, b),
+        Leaf::Text(at, n) => same_text(raw::part(t, at, n), m, t, b),
+        Leaf::Int(z) => same_int(m, t, z, b),
+        Leaf::Hex(h) => same_hex(m, t, h, b),
+    }
+}
+
+// 13 at s, a string, int or hex symbol.
+fn other_fault(m: &[u8], t: &[u8], vs: &[u8], s: usize) -> Outcome
+    requires { ⌜ s < 65536 ⌝ }
+    ensures { λ r. ⌜ r ≡ otherFault (now (m .entry)) (now (t .entry)) (now (vs .entry)) s ⌝ }
+{
+    let v = spell::of_value(entries::value(t, s));
+    let p = values::at(vs, fields::prompt_of(m, s));
+    let d = values::default_leaf(m, t, vs, s);
+    let bad = (p.v == 0) & !same_content(m, t, v, d);
+    raw::fault_if(bad, 13, s, 65535)
+}
+
+// Whether leaf low is an int of at most z.
+fn int_from(low: Leaf, z: i32) -> bool
+    ensures { λ r. ⌜ r ≡ leafInt (λ a. leZ a z) low ⌝ }
+{
+    match low {
+        Leaf::Three(_) => false,
+        Leaf::Note(_, _) => false,
+        Leaf::Text(_, _) => false,
+        Leaf::Int(a) => a <= z,
+        Leaf::Hex(_) => false,
+    }
+}
+
+// Whether leaf high is an int of at least z.
+fn int_to(z: i32, high: Leaf) -> bool
+    ensures { λ r. ⌜ r ≡ leafInt (λ b. leZ z b) high ⌝ }
+{
+    match high {
+        Leaf::Three(_) => false,
+        Leaf::Note(_, _) => false,
+        Leaf::Text(_, _) => false,
+        Leaf::Int(b) => z <= b,
+        Leaf::Hex(_) => false,
+    }
+}
+
+// Whether leaf low is a hex of at most h.
+fn hex_from(low: Leaf, h: u32) -> bool
+    ensures { λ r. ⌜ r ≡ leafHex (λ a. leb a h) low ⌝ }
+{
+    match low {
+        Leaf::Three(_) => false,
+        Leaf::Note(_, _) => false,
+        Leaf::Text(_, _) => false,
+        Leaf::Int(_) => false,
+        Leaf::Hex(a) => a <= h,
+    }
+}
+
+// Whether leaf high is a hex of at least h.
+fn hex_to(h: u32, high: Leaf) -> bool
+    ensures { λ r. ⌜ r ≡ leafHex (λ b. leb h b) high ⌝ }
+{
+    match high {
+        Leaf::Three(_) => false,
+        Leaf::Note(_, _) => false,
+        Leaf::Text(_, _) => false,
+        Leaf::Int(_) => false,
+        Leaf::Hex(b) => h <= b,
+    }
+}
+
+// Whether v lies from low to high: three ints, or three hexes.
+fn within(low: Leaf, high: Leaf, v: Leaf) -> bool
+    ensures { λ r. ⌜ r ≡ leafWithin low high v ⌝ }
+{
+    match v {
+        Leaf::Three(_) => false,
+        Leaf::Note(_, _) => false,
+        Leaf::Text(_, _) => false,
+        Leaf::Int(z) => int_from(low, z) & int_to(z, high),
+        Leaf::Hex(h) => hex_from(low, h) & hex_to(h, high),
+    }
+}
+
+// 14 at s, if range r is on it and broken.
+fn range_at(m: &[u8], t: &[u8], vs: &[u8], s: usize, r: usize) -> Outcome
+    requires { ⌜ (s < 65536) × (r < 65536) ⌝ }
+    ensures { λ q. ⌜ q ≡ test14 (now (m .entry)) (now (t .entry)) (now (vs .entry)) s r ⌝ }
+{
+    if fields::range_symbol(m, r) != s {
+        return Outcome::Clean;
+    }
+    let v = spell::of_value(entries::value(t, s));
+    let condition = values::at(vs, fields::range_condition(m, r));
+    let low = values::leaf(m, t, fields::low_of(m, r));
+    let high = values::leaf(m, t, fields::high_of(m, r));
+    let bad = (0 < condition.v) & !within(low, high, v);
+    raw::fault_if(bad, 14, s, r)
+}
+
+// 14 at s: the first range on it that is broken.
+fn ranges_fault(m: &[u8], t: &[u8], vs: &[u8], s: usize) -> Outcome
+    requires { ⌜ s < 65536 ⌝ }
+    ensures { λ r. ⌜ r ≡ firstBelow (test14 (now (m .entry)) (now (t .entry)) (now (vs .entry)) s) (rangesOf (now (m .entry))) ⌝ }
+{
+    let n = fields::ranges(m);
+    for r in 0..n {
+        let at = range_at(m, t, vs, s, r);
+        if let Outcome::Fault(_, _, _) = at {
+            return at;
+        }
+    }
+    Outcome::Clean
+}
+
+// 11, 12 and 13 of s by its type.
+fn own_fault(m: &[u8], t: &[u8], vs: &[u8], s: usize) -> Outcome
+    requires { ⌜ s < 65536 ⌝ }
+    ensures { λ r. ⌜ r ≡ pick (threeType (now (m .entry)) s) (threeFault (now (m .entry)) (now (t .entry)) (now (vs .entry)) s) (otherFault (now (m .entry)) (now (t .entry)) (now (vs .entry)) s) ⌝ }
+{
+    if fields::is_three(m, s) {
+        return three_fault(m, t, vs, s);
+    }
+    other_fault(m, t, vs, s)
+}
+
+// 11 to 14 at s.
+pub fn symbol_fault(m: &[u8], t: &[u8], vs: &[u8], s: usize) -> Outcome
+    requires { ⌜ s < 65536 ⌝ }
+    ensures { λ r. ⌜ r ≡ symbolFault (now (m .entry)) (now (t .entry)) (now (vs .entry)) s ⌝ }
+{
+    let own = own_fault(m, t, vs, s);
+    if let Outcome::Fault(_, _, _) = own {
+        return own;
+    }
+    ranges_fault(m, t, vs, s)
+}
