@@ -6,7 +6,9 @@ use Prim.Native.Nat.{ℕ, zero, suc, _+_, _≤_, _<_}
 use native.Mathlib.Nat.{eq-or-lt-of-le, le-of-suc-le-suc}
 use native.Mathlib.Omega.{arith}
 use native.Mathlib.Numerals.{add-one}
-use Rattle.meaning.specs.Base.{allBelow}
+use borrow.Author.Tests.{eq-eqb, ne-eqb}
+use Rattle.meaning.specs.Base.{pick, fold, allBelow, firstWhere, countBelow}
+use Rattle.meaning.proofs.Folds.{fold-none, fold-more}
 
 and-false : (b : Bool) → b && false ≡ false
 and-false true = refl
@@ -30,3 +32,42 @@ module _ (p : ℕ → Bool) where
       (λ q. rw (← q, ← eh, f) (sym (and-false (allBelow p k))))
       (λ m. rw (← all-stop n k m eh f))
       (eq-or-lt-of-le (le-of-suc-le-suc l))
+
+-- FIRST: before the first turn, after a turn that failed, and where one passed
+module _ (p : ℕ → Bool) where
+  pub first-none : firstWhere p 0 ≡ 0
+  unfolding firstWhere
+  first-none = refl
+
+  pub first-more : (k : ℕ) {h : Bool} → firstWhere p k ≡ k → h ≡ p k → h ≡ false → firstWhere p (k + 1) ≡ k + 1
+  unfolding firstWhere
+  first-more k e eh f = rw (add-one, e, eq-eqb k k refl, ← eh, f)
+
+  pub first-hit : (n k : ℕ) {h : Bool} → firstWhere p k ≡ k → k < n → h ≡ p k → h ≡ true → k ≡ firstWhere p n
+  unfolding firstWhere
+  first-hit zero k e l eh t = absurd (omega arith)
+  first-hit (suc n) k e l eh t =
+      ⊎-elim
+      (λ q. rw (← q, e, eq-eqb k k refl, ← eh, t))
+      (λ m. rw (← first-hit n k e m eh t, ne-eqb k n (λ z. omega arith)))
+      (eq-or-lt-of-le (le-of-suc-le-suc l))
+
+-- HOW MANY: after a turn
+module _ (p : ℕ → Bool) where
+  pub count-none : 0 ≡ countBelow p 0
+  unfolding countBelow
+  count-none = fold-none _ 0
+
+  pub count-more : (k : ℕ) {h : Bool} {x y : ℕ} → x ≡ countBelow p k → h ≡ p k → y ≡ pick h 1 0 + x → y ≡ countBelow p (k + 1)
+  unfolding countBelow
+  count-more k e eh ey = fold-more _ 0 k e (rw eh at ey)
+
+  -- no more than were looked at
+  pub count-bound : (k : ℕ) → countBelow p k ≤ k
+  unfolding countBelow fold
+  count-bound zero = omega arith
+  count-bound (suc k) = by (p k) (count-bound k)
+    where
+      by : (b : Bool) {x : ℕ} → x ≤ k → pick b 1 0 + x ≤ suc k
+      by true h = omega arith
+      by false h = omega arith

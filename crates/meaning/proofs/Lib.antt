@@ -1,3 +1,3 @@
 pub mod First
-pub mod Below
 pub mod Folds
+pub mod Below

@@ -1,0 +1,188 @@
+//! The time of the archive beside that of the second program, both built for
+//! release, in one run: large tables that keep every rule, so that the whole
+//! check runs; the growth with the length; and the largest clearances.
+
+mod shapes;
+
+use differential::archive::{self, FINDINGS, NO_FINDINGS};
+use differential::big::Big;
+use second::Answer;
+use shapes::{boolean_book, full_boolean_book, GROWTH, SHAPES, USUAL};
+use std::hint::black_box;
+use std::time::{Duration, Instant};
+
+/// How long the two sides of one line are timed together.
+const BUDGET: Duration = Duration::from_millis(800);
+
+/// The least time of one sample, and the fewest samples.
+const SAMPLE: Duration = Duration::from_micros(300);
+const FEWEST: usize = 5;
+
+/// The seed of the large books.
+const SEED: u64 = 1;
+
+/// The median times of both sides, in microseconds.
+struct Times {
+    archive: f64,
+    second: f64,
+}
+
+impl Times {
+    /// Times two functions in turn, so that both meet the same machine.
+    fn of(mut archive: impl FnMut(), mut second: impl FnMut()) -> Times {
+        let start = Instant::now();
+        let runs = (batch(&mut archive), batch(&mut second));
+        let mut samples = (Vec::new(), Vec::new());
+        while samples.0.len() < FEWEST || start.elapsed() < BUDGET {
+            samples.0.push(sample(&mut archive, runs.0));
+            samples.1.push(sample(&mut second, runs.1));
+        }
+        Times { archive: median(samples.0), second: median(samples.1) }
+    }
+}
+
+/// How many runs make a sample of the least time.
+fn batch(function: &mut impl FnMut()) -> u32 {
+    let mut runs = 1;
+    while runs < 10_000 && sample(function, runs) * f64::from(runs) < SAMPLE.as_secs_f64() * 1e6 {
+        runs *= 2;
+    }
+    runs
+}
+
+/// The time of one run, over some, in microseconds.
+fn sample(function: &mut impl FnMut(), runs: u32) -> f64 {
+    let start = Instant::now();
+    (0..runs).for_each(|_| function());
+    start.elapsed().as_secs_f64() * 1e6 / f64::from(runs)
+}
+
+/// The value in the middle.
+fn median(mut values: Vec<f64>) -> f64 {
+    values.sort_by(f64::total_cmp);
+    values[values.len() / 2]
+}
+
+/// Times the table check on a book; both sides must answer 0.
+fn table(model: &[u8], table: &[u8], nodes: usize) -> Times {
+    let (mut ours, mut theirs) = (vec![0xee; nodes], vec![0xee; nodes]);
+    assert_eq!(archive::check_table(model, table, &mut ours), Answer::KEPT);
+    assert_eq!(second::check_table(model, table, &mut theirs), Answer::KEPT);
+    assert_eq!(ours, theirs);
+    Times::of(
+        || _ = black_box(archive::check_table(model, table, &mut ours)),
+        || _ = black_box(second::check_table(model, table, &mut theirs)),
+    )
+}
+
+/// Times the finding check; both sides must answer 0.
+fn finding(model: &[u8], finding: &[u8], nodes: usize, symbols: usize) -> Times {
+    let (mut ours, mut theirs) = (vec![0xee; nodes], vec![0xee; nodes]);
+    let (mut our_marks, mut their_marks) = (vec![0xdd; symbols], vec![0xdd; symbols]);
+    let kept = Some(Answer::KEPT);
+    assert_eq!(archive::check_finding(model, finding, &mut ours, &mut our_marks), kept);
+    let theirs_kept = second::check_finding(model, finding, &mut theirs, &mut their_marks);
+    assert_eq!(Some(theirs_kept), kept);
+    Times::of(
+        || _ = black_box(archive::check_finding(model, finding, &mut ours, &mut our_marks)),
+        || _ = black_box(second::check_finding(model, finding, &mut theirs, &mut their_marks)),
+    )
+}
+
+/// Times the name call.
+fn name(model: &[u8], symbol: usize) -> Times {
+    assert_eq!(archive::name(model, symbol).1, second::name(model, symbol).len());
+    Times::of(
+        || _ = black_box(archive::name(model, symbol)),
+        || _ = black_box(second::name(model, symbol)),
+    )
+}
+
+/// Prints one line of the table.
+fn line(what: &str, counts: [usize; 8], bytes: usize, times: &Times) {
+    let [symbols, nodes, defaults, selects, ..] = counts;
+    let ratio = times.archive / times.second;
+    println!(
+        "{what:34} {symbols:7} {selects:7} {defaults:8} {nodes:6} {bytes:6} {:11.1} {:11.1} {ratio:7.2}",
+        times.archive, times.second
+    );
+}
+
+/// The heads of the columns.
+fn heads() {
+    println!(
+        "{:34} {:>7} {:>7} {:>8} {:>6} {:>6} {:>11} {:>11} {:>7}",
+        "", "symbols", "selects", "defaults", "nodes", "bytes", "archive us", "second us", "ratio"
+    );
+}
+
+/// The table check on each shape, and the name call on the usual one.
+fn tables() {
+    for (what, shape) in &SHAPES {
+        let big = Big::new(shape, SEED);
+        let (model, values) = (big.model(), big.table());
+        let counts = big.sketch.counts();
+        assert_eq!(
+            counts[..5],
+            [shape.symbols, shape.nodes, shape.defaults, shape.selects, shape.ranges]
+        );
+        assert_eq!(model.len(), shape.bytes);
+        line(what, counts, model.len(), &table(&model, &values, shape.nodes));
+    }
+    let big = Big::new(&USUAL, SEED);
+    let model = big.model();
+    line(
+        "name of the last symbol of b",
+        big.sketch.counts(),
+        model.len(),
+        &name(&model, USUAL.symbols - 1),
+    );
+}
+
+/// The complete clearance of 13 booleans, alone and in a full book.
+fn findings() {
+    if !FINDINGS {
+        println!("{NO_FINDINGS}");
+        return;
+    }
+    let books =
+        [("complete clearance", boolean_book()), ("the same, full book", full_boolean_book())];
+    for (what, sketch) in books {
+        let model = sketch.bytes();
+        let clearance = second::complete_clearance(&model, 0).expect("a complete clearance");
+        let counts = sketch.counts();
+        let what = format!("{what}, {} bytes", clearance.len());
+        line(&what, counts, model.len(), &finding(&model, &clearance, counts[1], counts[0]));
+    }
+}
+
+/// The usual shape, smaller and larger.
+fn growth() {
+    println!(
+        "\n{:34} {:>7} {:>6} {:>11} {:>8} {:>11} {:>8}",
+        "growth of b", "symbols", "bytes", "archive us", "ns/byte", "second us", "ns/byte"
+    );
+    for bytes in GROWTH {
+        let big = Big::new(&USUAL.scaled(bytes), SEED);
+        let (model, values) = (big.model(), big.table());
+        assert_eq!(model.len(), bytes);
+        let times = table(&model, &values, big.sketch.nodes.len());
+        let per_byte = |time: f64| time * 1e3 / bytes as f64;
+        println!(
+            "{:34} {:7} {bytes:6} {:11.1} {:8.2} {:11.1} {:8.2}",
+            "",
+            big.sketch.symbols.len(),
+            times.archive,
+            per_byte(times.archive),
+            times.second,
+            per_byte(times.second)
+        );
+    }
+}
+
+fn main() {
+    heads();
+    tables();
+    findings();
+    growth();
+}

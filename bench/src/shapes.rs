@@ -1,0 +1,123 @@
+//! The books that are timed.
+
+use differential::big::Shape;
+use differential::names::Naming;
+use second::sketch::Sketch;
+
+/// The most bytes of a book.
+pub const FULL: usize = 65535;
+
+/// The shapes of the table check, by what they stand for.
+pub const SHAPES: [(&str, Shape); 5] = [
+    (
+        "a: few selects",
+        Shape {
+            symbols: 1068,
+            nodes: 600,
+            defaults: 400,
+            selects: 50,
+            ranges: 20,
+            choices: 10,
+            bytes: 33_000,
+            naming: Naming::Real,
+        },
+    ),
+    ("b: the usual large book", USUAL),
+    (
+        "c: more selects than symbols",
+        Shape {
+            symbols: 1450,
+            nodes: 1000,
+            defaults: 900,
+            selects: 1578,
+            ranges: 20,
+            choices: 10,
+            bytes: 53_000,
+            naming: Naming::Real,
+        },
+    ),
+    (
+        "d: the most selects",
+        Shape {
+            symbols: 4000,
+            nodes: 20,
+            defaults: 300,
+            selects: 5000,
+            ranges: 0,
+            choices: 0,
+            bytes: FULL,
+            naming: Naming::Overlapping,
+        },
+    ),
+    (
+        "e: the most names",
+        Shape {
+            symbols: 6000,
+            nodes: 20,
+            defaults: 20,
+            selects: 20,
+            ranges: 0,
+            choices: 0,
+            bytes: FULL,
+            naming: Naming::Short,
+        },
+    ),
+];
+
+/// The shape that is also made smaller and larger.
+pub const USUAL: Shape = Shape {
+    symbols: 1747,
+    nodes: 1800,
+    defaults: 1500,
+    selects: 1012,
+    ranges: 20,
+    choices: 10,
+    bytes: 58_000,
+    naming: Naming::Real,
+};
+
+/// The lengths of the growth.
+pub const GROWTH: [usize; 4] = [8192, 16384, 32768, FULL];
+
+/// The booleans of a complete clearance.
+const BOOLEANS: u16 = 13;
+
+/// A book of 13 booleans in which each selects the next, half of them without a
+/// prompt. The target of select 0 depends on nothing, so its complete
+/// clearance is accepted.
+pub fn boolean_book() -> Sketch {
+    let mut sketch = Sketch::default();
+    sketch.node(0, 0, 0);
+    sketch.node(0, 2, 0);
+    (0..BOOLEANS).for_each(|symbol| _ = sketch.node(1, symbol, 0));
+    for symbol in 0..BOOLEANS {
+        sketch.symbol(0, &format!("OPTION_{symbol}"), 1 - symbol % 2, 1);
+    }
+    for symbol in 1..BOOLEANS {
+        sketch.selects.push([symbol - 1, symbol, 2 + (symbol + 5) % BOOLEANS]);
+        sketch.defaults.push([symbol, 1, 2 + symbol / 2]);
+    }
+    sketch
+}
+
+/// The same book with nodes, selects and defaults up to 65,535 bytes.
+pub fn full_boolean_book() -> Sketch {
+    let mut sketch = boolean_book();
+    for record in 0..1900 {
+        let (one, other) = (record % BOOLEANS, record / BOOLEANS % BOOLEANS);
+        let from = one.min(other);
+        sketch.selects.push([from, (from + 1).min(BOOLEANS - 1), 2 + other]);
+        sketch.defaults.push([one, record % 2, 2 + other]);
+    }
+    while sketch.bytes().len() + 6 <= FULL {
+        let index = sketch.nodes.len() as u16;
+        match index % 4 {
+            0 => sketch.node(5, index - 1, 0),
+            1 => sketch.node(6, index - 1, 2 + index % BOOLEANS),
+            2 => sketch.node(7, index - 2, index - 7),
+            _ => sketch.node(8, 2 + index % BOOLEANS, 2 + index / 13 % BOOLEANS),
+        };
+    }
+    sketch.texts.resize(sketch.texts.len() + FULL - sketch.bytes().len(), b'.');
+    sketch
+}

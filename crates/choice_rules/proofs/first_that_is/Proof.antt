@@ -1,0 +1,63 @@
+-- `choice_rules::first_that_is` meets its contract: it goes on while no member so far passes, and stops at the first that does.
+use Rattle.meaning.specs.Book.{memberCount}
+-- `choice_rules::first_that_is` meets its contract: it goes on while no member so far passes, and stops at the first that does.
+use lib.Dec.{eqb, leb, ltb}
+use Prim.Native.Nat.{_≤_, _-_, _+_, _<_}
+use native.Mathlib.Omega.{arith}
+use mathlib.Core.Path.{_≡_, refl, sym, _∙_, ap, ap₂}
+use mathlib.Core.Bool.{_&&_, not}
+use Rattle.meaning.specs.Base.{firstWhere}
+use Rattle.meaning.proofs.Below.{first-none, first-more, first-hit}
+use Rattle.meaning.specs.Rules.{memberValue}
+use borrow.Author.Needs.{needs}
+use Rattle.choice_rules.proofs.first_that_is.Statement.{statement}
+use Rattle.choice_rules.proofs.first_that_is.Tie as tie
+use Rattle.choice_rules.proofs.first_that_is.Reads as reads
+use Rattle.choice_rules.proofs.first_that_is.Lts as lts
+use Rattle.choice_rules.proofs.member_value.Reads as member-value-reads
+use Rattle.fields.proofs.member_count.Reads as member-count-reads
+
+abbrev Inv-loop : tie.InvT-loop
+Inv-loop m t c x n j₀ j = (j ≤ n) × (firstWhere (λ i. eqb (memberValue m t c i) x) j ≡ j)
+
+abbrev μ-loop : tie.MeasureT-loop
+μ-loop m t c x n j₀ j = n - j
+
+member-count-requires : tie.Need-member-count-requires Inv-loop μ-loop
+member-count-requires c κs = search needs
+
+loop-holds : tie.Need-loop-holds Inv-loop μ-loop
+loop-holds c = (omega arith, first-none _)
+
+member-value-requires : tie.Need-member-value-requires Inv-loop μ-loop
+member-value-requires c κs = search needs
+
+returns : tie.Need-returns Inv-loop μ-loop
+returns c = (first-hit (λ i. eqb (memberValue (c .before .before .before .before .before .before .before .before .args .m .now) (c .before .before .before .before .before .before .before .before .args .t .now) (c .before .before .before .before .before .before .before .before .args .c) i) (c .before .before .before .before .before .before .before .before .args .x)) _ (c .before .before .before .before .loop .j) {h = eqb (c .before .before .member-value .result .v) (c .before .before .before .before .before .before .before .before .args .x)} (c .before .before .before .before .loop .inv .1) (omega arith) (rw (c .before .before .member-value .ensures)) (c .if1 .taken), omega arith)
+
+add-j : tie.Need-add-j Inv-loop μ-loop
+add-j c = search needs
+
+loop-less : tie.Need-loop-less Inv-loop μ-loop
+loop-less c = search needs
+
+loop-again : tie.Need-loop-again Inv-loop μ-loop
+loop-again c = (omega arith, first-more (λ i. eqb (memberValue (c .before .before .before .before .before .before .before .before .args .m .now) (c .before .before .before .before .before .before .before .before .args .t .now) (c .before .before .before .before .before .before .before .before .args .c) i) (c .before .before .before .before .before .before .before .before .args .x)) (c .before .before .before .before .loop .j) {h = eqb (c .before .before .member-value .result .v) (c .before .before .before .before .before .before .before .before .args .x)} (c .before .before .before .before .loop .inv .1) (rw (c .before .before .member-value .ensures)) (c .if1 .left))
+
+returns-2 : tie.Need-returns-2 Inv-loop μ-loop
+returns-2 c = let e : c .before .before .member-count .result ≡ c .before .loop .j = omega arith in let q : c .before .loop .j ≡ memberCount (c .before .before .before .before .before .args .m .now) (c .before .before .before .before .before .args .c) = omega arith in (e ∙ sym (c .before .loop .inv .1) ∙ ap (firstWhere (λ i. eqb (memberValue (c .before .before .before .before .before .args .m .now) (c .before .before .before .before .before .args .t .now) (c .before .before .before .before .before .args .c) i) (c .before .before .before .before .before .args .x))) q, omega arith)
+
+pub first-that-is-spec : {M : Type 1} → statement M
+first-that-is-spec =
+    tie.close
+    (tie.spec
+    Inv-loop
+    μ-loop
+    member-count-requires
+    loop-holds
+    member-value-requires
+    returns
+    add-j
+    loop-less
+    loop-again
+    returns-2)

@@ -1,0 +1,68 @@
+-- `rules::modules_fault` meets its contract: it goes on while no symbol is m without modules, and stops at the first that is.
+use native.Mathlib.Omega.{arith}
+use mathlib.Core.Path.{_≡_, refl, sym, _∙_, ap}
+use Prim.Native.Nat.{_≤_, _-_}
+use Rattle.meaning.specs.Base.{firstBelow}
+use Rattle.meaning.specs.declared.Outcome.the-variants.{Clean}
+use Rattle.meaning.specs.Rules.{test18}
+use Rattle.meaning.proofs.First.{clean-none, clean-more, place-fault}
+use borrow.Author.Needs.{needs}
+use Rattle.rules.proofs.modules_fault.Statement.{statement}
+use Rattle.rules.proofs.modules_fault.Tie as tie
+use Rattle.rules.proofs.modules_fault.Reads as reads
+use Rattle.rules.proofs.modules_fault.Lts as lts
+use Rattle.choice_rules.proofs.modules_fault.Reads as modules-fault-reads
+use Rattle.fields.proofs.symbols.Reads as symbols-reads
+
+abbrev Inv-loop : tie.InvT-loop
+Inv-loop m t n s₀ s = (s ≤ n) × (firstBelow (test18 m t) s ≡ Clean)
+
+abbrev μ-loop : tie.MeasureT-loop
+μ-loop m t n s₀ s = n - s
+
+symbols-requires : tie.Need-symbols-requires Inv-loop μ-loop
+symbols-requires c κs = search needs
+
+loop-holds : tie.Need-loop-holds Inv-loop μ-loop
+loop-holds c = (omega arith, clean-none _)
+
+modules-fault-requires : tie.Need-modules-fault-requires Inv-loop μ-loop
+modules-fault-requires c κs = search needs
+
+enum-told : tie.Need-enum-told Inv-loop μ-loop
+enum-told c = search needs
+
+returns : tie.Need-returns Inv-loop μ-loop
+returns c = place-fault _ _ _ (c .before .before .before .before .loop .inv .1) (c .before .before .modules-fault .ensures) (c .enum-told .given .1) (omega arith)
+
+enum-told-2 : tie.Need-enum-told-2 Inv-loop μ-loop
+enum-told-2 c = search needs
+
+add-s : tie.Need-add-s Inv-loop μ-loop
+add-s c = search needs
+
+loop-less : tie.Need-loop-less Inv-loop μ-loop
+loop-less c = search needs
+
+loop-again : tie.Need-loop-again Inv-loop μ-loop
+loop-again c = (omega arith, clean-more _ _ (c .before .before .before .before .loop .inv .1) (c .before .before .modules-fault .ensures) (c .enum-told2 .given .1))
+
+returns-2 : tie.Need-returns-2 Inv-loop μ-loop
+returns-2 c = let e : c .before .loop .s ≡ c .before .before .symbols .result = omega arith in sym (rw (e, c .before .before .symbols .ensures .0) at (c .before .loop .inv .1))
+
+pub modules-fault-spec : {M : Type 1} → statement M
+modules-fault-spec =
+    tie.close
+    (tie.spec
+    Inv-loop
+    μ-loop
+    symbols-requires
+    loop-holds
+    modules-fault-requires
+    enum-told
+    returns
+    enum-told-2
+    add-s
+    loop-less
+    loop-again
+    returns-2)

@@ -1,0 +1,244 @@
+//! The archive against the second program.
+//!
+//! usage: differential [COUNT [SEED]]
+//!        differential case HEX
+//!
+//! COUNT cases of SEED (or N and SEED of the environment; else 100,000 of seed
+//! 1), three neighbours of each, some large books and every named case go
+//! through both. Answer, place, second place, names, and every byte of both
+//! rooms must be the same, and nothing else may be written to. A difference is
+//! shrunk and printed as a case of the protocol in hex, which `case` runs again.
+
+use differential::archive::{FINDINGS, NO_FINDINGS};
+use differential::big::{self, Big, Shape};
+use differential::compare::{compare, differs, Difference};
+use differential::shrink::shrunk;
+use second::cases::{hex, Case, NAME};
+use second::gen::dice::Dice;
+use second::gen::{self, Which};
+use second::named;
+use std::collections::BTreeMap;
+use std::process::ExitCode;
+use std::time::Instant;
+
+/// How many neighbours of a generated case are run.
+const NEIGHBOURS: usize = 3;
+
+/// One large book for so many generated cases, and how often it is changed.
+const LARGE_EVERY: usize = 500;
+const LARGE_CASES: usize = 16;
+
+/// The differences shown before the run is given up.
+const SHOWN: usize = 3;
+
+/// The words for the kinds of cases.
+const KINDS: [&str; 4] = ["table", "finding", "name", "program"];
+
+fn main() -> ExitCode {
+    let words: Vec<String> = std::env::args().skip(1).collect();
+    if let [word, text] = &words[..] {
+        if word == "case" {
+            return one_case(text);
+        }
+    }
+    let number = |word: usize, variable: &str, usual: u64| {
+        let text = words.get(word).cloned().or_else(|| std::env::var(variable).ok());
+        text.map_or(Some(usual), |text| text.replace([',', '_'], "").parse().ok())
+    };
+    let (Some(count), Some(seed), true) =
+        (number(0, "N", 100_000), number(1, "SEED", 1), words.len() <= 2)
+    else {
+        eprintln!("usage: differential [COUNT [SEED]] | differential case HEX");
+        return ExitCode::from(2);
+    };
+    let mut run = Run::default();
+    let start = Instant::now();
+    run.all(count as usize, seed);
+    run.report(seed, start.elapsed().as_secs_f64())
+}
+
+/// What was run so far, and what it drew.
+#[derive(Default)]
+struct Run {
+    generated: usize,
+    neighbours: usize,
+    large: usize,
+    named: usize,
+    not_covered: usize,
+    differences: usize,
+    drawn: BTreeMap<(u32, u32), usize>,
+}
+
+impl Run {
+    /// All named cases, then the generated ones, with neighbours and large books.
+    fn all(&mut self, count: usize, seed: u64) {
+        for case in named::cases() {
+            self.named += 1;
+            self.one(&case);
+        }
+        for index in 0..count {
+            if self.differences >= SHOWN {
+                return;
+            }
+            let case = generated(seed, index as u64);
+            self.generated += 1;
+            self.one(&case);
+            let mut dice = Dice::new(!seed, index as u64);
+            for number in 0..NEIGHBOURS {
+                self.neighbours += 1;
+                self.one(&neighbour(&mut dice, &case, number));
+            }
+            if index % LARGE_EVERY == 0 {
+                self.large_book(&mut dice, seed, index);
+            }
+        }
+    }
+
+    /// A large book, changed again and again.
+    fn large_book(&mut self, dice: &mut Dice, seed: u64, index: usize) {
+        let shape = Shape::random(dice);
+        let big = Big::new(&shape, dice.next());
+        for number in 0..LARGE_CASES {
+            let mut case = big::changed(dice, &big, FINDINGS);
+            case.name = format!("large-{seed}-{index}-{number}");
+            self.large += 1;
+            self.one(&case);
+        }
+    }
+
+    /// One case; a difference is shrunk and shown.
+    fn one(&mut self, case: &Case) {
+        match compare(case) {
+            Ok(Some(answer)) => *self.drawn.entry((case.kind, answer)).or_insert(0) += 1,
+            Ok(None) => self.not_covered += 1,
+            Err(_) if self.differences >= SHOWN => {}
+            Err(difference) => {
+                self.differences += 1;
+                show(case, &difference);
+            }
+        }
+    }
+
+    /// Prints what was drawn, and says how it went.
+    fn report(&self, seed: u64, seconds: f64) -> ExitCode {
+        let (generated, neighbours) = (self.generated, self.neighbours);
+        let (large, named) = (self.large, self.named);
+        for (kind, word) in KINDS.iter().enumerate() {
+            let drawn: Vec<String> = self
+                .drawn
+                .range((kind as u32, 0)..(kind as u32 + 1, 0))
+                .map(|((kind, answer), count)| format!("{}: {count}", label(*kind, *answer)))
+                .collect();
+            println!("{word:8} {}", if drawn.is_empty() { "-".into() } else { drawn.join("  ") });
+        }
+        if !FINDINGS {
+            println!("{NO_FINDINGS} ({} named cases left out)", self.not_covered);
+        }
+        println!(
+            "differential: seed {seed}: {generated} generated cases, {neighbours} neighbours, \
+             {large} on large books, {named} named, in {seconds:.1} s: {} differ{}",
+            self.differences,
+            if self.differences >= SHOWN { ", and the run was given up" } else { "" },
+        );
+        ExitCode::from(u8::from(self.differences > 0))
+    }
+}
+
+/// A generated case; tables, names and programs where findings are not covered.
+fn generated(seed: u64, index: u64) -> Case {
+    let which = match index % 20 {
+        _ if FINDINGS => Which::All,
+        0 => Which::Names,
+        1 | 2 => Which::Programs,
+        _ => Which::Tables,
+    };
+    gen::case(seed, index, which)
+}
+
+/// The case with one byte of the model or of the other bytes changed, or with a
+/// room of another length.
+fn neighbour(dice: &mut Dice, case: &Case, number: usize) -> Case {
+    let mut case = case.clone();
+    case.name = format!("{}-{number}", case.name);
+    let bytes = match dice.below(8) {
+        0 => {
+            let nodes = case.node_work.len();
+            case.node_work.resize((nodes + 1).saturating_sub(dice.below(4)), 0xa7);
+            return case;
+        }
+        1 => {
+            let symbols = case.symbol_work.len();
+            case.symbol_work.resize((symbols + 1).saturating_sub(dice.below(4)), 0xb9);
+            return case;
+        }
+        2..=4 if case.second.is_empty() => &mut case.model,
+        2..=4 => &mut case.second,
+        _ => &mut case.model,
+    };
+    let at = dice.below(bytes.len());
+    if let Some(byte) = bytes.get_mut(at) {
+        *byte = match dice.below(3) {
+            0 => dice.byte(),
+            1 => *byte ^ 1 << dice.below(8),
+            _ => dice.below(11) as u8,
+        };
+    }
+    case
+}
+
+/// The word for what a case drew.
+fn label(kind: u32, answer: u32) -> String {
+    match (kind, answer) {
+        (NAME, 0) => "named".into(),
+        (NAME, _) => "empty".into(),
+        _ => answer.to_string(),
+    }
+}
+
+/// Shows a difference, and the smallest case found that still has one.
+fn show(case: &Case, difference: &Difference) {
+    println!("DIFFERENCE in {} ({} + {} bytes)", case.name, case.model.len(), case.second.len());
+    println!("  archive: {}", cut(&difference.archive));
+    println!("  second:  {}", cut(&difference.second));
+    let small = shrunk(case);
+    let Err(left) = compare(&small) else {
+        println!("  it comes and goes: the same case did not differ again");
+        return;
+    };
+    println!("  shrunk to {} + {} bytes", small.model.len(), small.second.len());
+    println!("  model   {}", cut(&hex(&small.model)));
+    println!("  {:7} {}", KINDS[small.kind as usize], cut(&hex(&small.second)));
+    println!("  archive: {}", cut(&left.archive));
+    println!("  second:  {}", cut(&left.second));
+    let mut bytes = Vec::new();
+    small.write(&mut bytes);
+    println!("  case {}", hex(&bytes));
+}
+
+/// A long line, cut.
+fn cut(line: &str) -> String {
+    match line.char_indices().nth(400) {
+        Some((at, _)) => format!("{}... ({} in all)", &line[..at], line.len()),
+        None => line.to_string(),
+    }
+}
+
+/// Runs one case of the protocol, given in hex.
+fn one_case(text: &str) -> ExitCode {
+    let digits: Option<Vec<u8>> = text.chars().map(|c| Some(c.to_digit(16)? as u8)).collect();
+    let bytes: Vec<u8> = digits
+        .unwrap_or_default()
+        .chunks(2)
+        .map(|pair| pair[0] << 4 | pair[pair.len() - 1])
+        .collect();
+    let Some((case, _)) = Case::read(&bytes) else {
+        eprintln!("these bytes are no case");
+        return ExitCode::from(2);
+    };
+    match compare(&case) {
+        Ok(Some(answer)) => println!("{}: both draw {}", case.name, label(case.kind, answer)),
+        Ok(None) => println!("{}: {NO_FINDINGS}", case.name),
+        Err(difference) => show(&case, &difference),
+    }
+    ExitCode::from(u8::from(differs(&case)))
+}

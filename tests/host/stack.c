@@ -1,0 +1,123 @@
+/*
+ * How much stack each function of the archive uses: a call on a painted stack of its own, and how deep the paint is
+ * gone. Ends non-zero if the table check or the name uses over 1,024 bytes, or the finding check over 12,288.
+ */
+#define _GNU_SOURCE
+#include "books.h"
+#include "plaitcrumb.h"
+#include <ucontext.h>
+
+enum { STACK = 1 << 20, TABLE_LIMIT = 1024, FINDING_LIMIT = 12288 };
+
+static uint8_t stack[STACK] __attribute__((aligned(64)));
+static uint8_t full[LONGEST], table_of_full[LONGEST], deep[LONGEST], finding[LONGEST], nodes[LONGEST], symbols[LONGEST];
+static uint8_t w_bytes[sizeof W], table_of_w[W_TABLE];
+static ucontext_t here, there;
+
+/* The call that is measured. */
+static const uint8_t *model, *bytes;
+static size_t model_len, bytes_len;
+static volatile uint64_t result;
+
+static void no_call(void) { result = 0; }
+static void table_call(void) {
+    result = plaitcrumb_check_table(model, model_len, bytes, bytes_len, nodes, sizeof nodes);
+}
+static void name_call(void) { result = plaitcrumb_name(model, model_len, bytes_len); }
+#ifdef PLAITCRUMB_FINDINGS
+static void finding_call(void) {
+    result = plaitcrumb_check_finding(model, model_len, bytes, bytes_len, nodes, sizeof nodes, symbols, sizeof symbols);
+}
+#endif
+
+/* Runs a call on the stack painted with this byte, and gives the bytes of it that are no longer paint. */
+static size_t used(void (*call)(void), int paint) {
+    size_t kept = 0;
+    memset(stack, paint, sizeof stack);
+    getcontext(&there);
+    there.uc_stack.ss_sp = stack;
+    there.uc_stack.ss_size = sizeof stack;
+    there.uc_link = &here;
+    makecontext(&there, call, 0);
+    swapcontext(&here, &there);
+    while (kept < sizeof stack && stack[kept] == paint)
+        kept++;
+    return sizeof stack - kept;
+}
+
+/* What a call uses beyond an empty one. It is made twice before, so that nothing of it is linked or paged in late. */
+static size_t measured(void (*call)(void)) {
+    size_t empty = used(no_call, 0xa5), one, other;
+    call();
+    used(call, 0xa5);
+    one = used(call, 0xa5);
+    other = used(call, 0x3c);
+    return (one > other ? one : other) - empty;
+}
+
+static size_t most;
+static void set_input(const uint8_t *m, size_t ml, const uint8_t *b, size_t bl) {
+    model = m;
+    model_len = ml;
+    bytes = b;
+    bytes_len = bl;
+}
+static void show(const char *what, void (*call)(void)) {
+    size_t size = measured(call);
+    if (size > most)
+        most = size;
+    printf("  %-52s answer %2u  %6zu bytes\n", what, (unsigned)(call == name_call ? 0 : plaitcrumb_answer(result)), size);
+}
+
+/* Ends a function: its largest use against its limit. */
+static int within(const char *function, size_t limit) {
+    int good = most <= limit;
+    printf("stack: %s: %zu bytes at most, limit %zu%s\n", function, most, limit, good ? "" : ": OVER THE LIMIT");
+    most = 0;
+    return good;
+}
+
+int main(void) {
+    size_t full_len = full_book(full), full_table_len = full_table(table_of_full);
+    int good = 1;
+    memcpy(w_bytes, W, sizeof W);
+    w_table(table_of_w, 2, 2, 0);
+
+    set_input(w_bytes, sizeof W, table_of_w, W_TABLE);
+    show("table check, worked model", table_call);
+    set_input(full, full_len, table_of_full, full_table_len);
+    show("table check, full book", table_call);
+    good &= within("plaitcrumb_check_table", TABLE_LIMIT);
+
+    set_input(w_bytes, sizeof W, NULL, 2);
+    show("name, worked model", name_call);
+    set_input(full, full_len, NULL, FULL_SYMBOLS - 1);
+    show("name, full book", name_call);
+    good &= within("plaitcrumb_name", TABLE_LIMIT);
+
+#ifdef PLAITCRUMB_FINDINGS
+    static const unsigned leaves[7][2] = {{20, 0}, {11, 7}, {12, 9}, {13, 7}, {18, 6}, {15, 0}, {17, 0}};
+    size_t deep_len = small_deep_book(deep);
+    memcpy(finding + 4, table_of_w, W_TABLE);
+    set_input(w_bytes, sizeof W, finding, 4 + W_TABLE);
+    show("finding check, worked model, witness", finding_call);
+    memcpy(finding + 4, table_of_full, full_table_len);
+    set_input(full, full_len, finding, 4 + full_table_len);
+    show("finding check, full book, witness", finding_call);
+    set_input(deep, deep_len, finding, deep_clearance(finding, 64, 0, 2, 20, 0));
+    show("finding check, 64 splits on a small book", finding_call);
+    for (int i = 0; i < 7; i++) {
+        char what[60];
+        set_input(full, full_len, finding, deep_clearance(finding, 64, 6, 3, leaves[i][0], leaves[i][1]));
+        sprintf(what, "finding check, full book, 64 splits to a leaf %u", leaves[i][0]);
+        show(what, finding_call);
+    }
+    good &= within("plaitcrumb_check_finding", FINDING_LIMIT);
+#else
+    (void)symbols;
+    (void)deep;
+    (void)finding;
+    printf("stack: findings are NOT covered: the archive has no finding check yet\n");
+#endif
+    return !good;
+}
