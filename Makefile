@@ -1,21 +1,28 @@
 # What a person types: `make demo` and `make test`.
 
-SECOND = build/cargo/release/second
+.PHONY: demo test lib bench cases second clean
 
-.PHONY: demo test cases second clean
-
-# Proves the worked clock tree (cases P1 to P10, computed by the prover) and prints each answer with what it shows.
-demo: second
-	@rt check meaning > build/demo.log 2>&1 || { cat build/demo.log; exit 1; }
-	@echo "P1 to P10 and the program's line: proved, crates/meaning/specs/Cases.antt (worked, printed)."
-	@echo "The same cases answered by the second program (answer, place, second place, rooms):"
-	@$(SECOND) named | $(SECOND) answers | sed -n 1,10p
-	@echo "The released table, as the program prints it:"
-	@printf '\137\0\377\377\044\0\003\0\074\0\003\0\116\0\0\0\116\0\001\0\124\0\0\0\124\0\0\0\124\0\0\0\124\0\013\0\0\004\0\0\001\0\001\0\0\004\004\0\0\0\002\0\0\003\010\0\001\0\001\0\0\0\0\0\0\0\0\0\002\0\0\0\001\0\002\0\0\0\0\0\001\0\001\0PUSHTICKRTC\023\0\003\0\0\001\020\0\0\001\021\0\0\001\022\0\002\0\0' | $(SECOND) line
+# Proves and builds what it needs, and answers the clock tree: the tables by the proved archive, and the ten cases P1 to P10 that
+# the prover computed from the definitions.
+demo: lib
+	@examples/run.sh
+	@echo "P1 to P10 and the line 11 1 65535 TICK: proved of the definitions, crates/meaning/specs/Cases.antt (worked, printed)."
 
 # The gate.
 test:
 	.ci/run
+
+# build/libplaitcrumb.a: with include/plaitcrumb.h it is all that a C host needs.
+lib:
+	@mkdir -p build
+	@rt check rules > build/lib.log 2>&1 || { tail -n 30 build/lib.log; exit 1; }
+	@rt staticlib plaitcrumb >> build/lib.log 2>&1 || { tail -n 30 build/lib.log; exit 1; }
+	@cp target/staticlib/libplaitcrumb.a build/
+	@echo "build/libplaitcrumb.a is proved and built."
+
+# Time and stack, side by side with the second program.
+bench: lib
+	bench/run.sh
 
 # Writes the committed run cases anew.
 cases:

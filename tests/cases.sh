@@ -9,12 +9,11 @@ cargo build --offline --release --quiet --manifest-path tests/second/Cargo.toml
 second=$CARGO_TARGET_DIR/release/second
 new=$(mktemp -d)
 trap 'rm -rf "$new"' EXIT
-{ "$second" named; "$second" gen 1 2400; } > "$new/stdin"
+{ "$second" named | "$second" only 0 2; "$second" gen 1 2100 tables; "$second" gen 2 100 names; } > "$new/stdin"
 "$second" answers < "$new/stdin" > "$new/stdout"
 if [ "${1:-}" = --check ]; then
-    cmp "$new/stdin" tests/cases/stdin
-    cmp "$new/stdout" tests/cases/stdout
+    cmp "$new/stdin" crates/runs/stdin
+    cmp "$new/stdout" crates/runs/stdout
 else
-    mkdir -p tests/cases
-    cp "$new/stdin" "$new/stdout" tests/cases/
+    cp "$new/stdin" "$new/stdout" crates/runs/
 fi

@@ -89,6 +89,10 @@ abbrev pub answerOf : Outcome → Answer
 answerOf Clean = record { number = 0; place = 65535; second = 65535 }
 answerOf (Fault n p s) = record { number = n; place = p; second = s }
 
+-- the three numbers in one, as an exported check returns them: every place fits 16 bits
+abbrev pub packed : Answer → ℕ
+packed a = 4294967296 * a .number + 65536 * a .place + a .second
+
 -- names every definition of this file: who says `unfolding openBase` has them all
 unfoldable pub openBase : Unit {0}
 unfolding fold tabulate half word part sameText allBelow countBelow firstWhere build when orElse firstBelow

@@ -365,7 +365,11 @@ pub record WellFormed (m : List ℕ) : Type 0 where
 unfoldable pub nameOf : List ℕ → ℕ → List ℕ
 nameOf m s = ifClean (bookFault m) (pick (ltb s (symbols m)) (spelledName m s) []) []
 
+-- where that part starts and how long it is, in one number; 0 where it is empty
+unfoldable pub namePlace : List ℕ → ℕ → ℕ
+namePlace m s = ifClean (bookFault m) (pick (ltb s (symbols m)) (4294967296 * nameStart m s + nameLength m s) 0) 0
+
 -- names every definition of this file: who says `unfolding openBook` has them all
 unfoldable pub openBook : Unit {0}
-unfolding start count endOf due byteIn halfIn otherName newName nameBytes digitsAlone nameOk symbolOk leafFits nodeFits nodeOk defaultOk selectOk boundOk rangeOk memberDue choiceOk newMember memberOk lengthFault chainAt endFault chainFault recordOk recordAt sectionFault unusedFault memberAt choiceMembersFault membersFault sectionAfter recordsFault modulesFault bookFault nameOf
+unfolding start count endOf due byteIn halfIn otherName newName nameBytes digitsAlone nameOk symbolOk leafFits nodeFits nodeOk defaultOk selectOk boundOk rangeOk memberDue choiceOk newMember memberOk lengthFault chainAt endFault chainFault recordOk recordAt sectionFault unusedFault memberAt choiceMembersFault membersFault sectionAfter recordsFault modulesFault bookFault nameOf namePlace
 openBook = tt

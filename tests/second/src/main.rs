@@ -9,6 +9,7 @@ use std::process::ExitCode;
 const USAGE: &str = "usage: second answers < cases
        second gen SEED COUNT [tables|findings|names|programs|all]
        second named
+       second only KIND.. < cases
        second line < input
        second complete SELECT < model
        second histogram < cases
@@ -39,6 +40,7 @@ fn run(words: &[&str]) -> io::Result<Option<ExitCode>> {
         ["gen", seed, count] => return generate(seed, count, "all"),
         ["gen", seed, count, which] => return generate(seed, count, which),
         ["named"] => write_cases(second::named::cases().into_iter())?,
+        ["only", ref kinds @ ..] => only(kinds)?,
         ["line"] => {
             io::stdout().write_all(&second::line(&input()?))?;
             ExitCode::SUCCESS
@@ -89,6 +91,12 @@ fn write_cases(cases: impl Iterator<Item = Case>) -> io::Result<ExitCode> {
     }
     out.flush()?;
     Ok(ExitCode::SUCCESS)
+}
+
+/// Writes those cases of standard input whose kind is named: 0 table, 1 finding, 2 name, 3 program.
+fn only(kinds: &[&str]) -> io::Result<ExitCode> {
+    let cases = input_cases()?.into_iter();
+    write_cases(cases.filter(|case| kinds.contains(&case.kind.to_string().as_str())))
 }
 
 /// Writes generated cases.

@@ -1,0 +1,45 @@
+// The C interface: every exported function, and nothing else. include/plaitcrumb.h is its manual.
+//
+// No heap, no globals; any bytes in, a plain integer out, and every lent byte stated.
+ghost use mathlib.Core.Path.{_≡_};
+ghost use Prim.Native.Nat.{ℕ};
+ghost use lib.ListN.{length};
+ghost use Rattle.meaning.specs.Base.{answerOf, packed};
+ghost use Rattle.meaning.specs.Book.{namePlace};
+ghost use Rattle.meaning.specs.Rules.{verdict, nodeWork};
+use meaning::Outcome;
+
+// An outcome's three numbers in one: answer x 2^32 + place x 2^16 + second.
+fn pack(o: Outcome) -> u64
+    ensures { λ r. ⌜ r ≡ packed (answerOf o) ⌝ }
+{
+    match o {
+        Outcome::Clean => 65536 * 65535 + 65535,
+        Outcome::Fault(n, p, s) => 4294967296 * (n as u64) + 65536 * (p as u64) + (s as u64),
+    }
+}
+
+// The table check.
+#[no_mangle]
+pub extern "C" fn plaitcrumb_check_table(model: &[u8], table: &[u8], work: &mut [u8]) -> u64
+    ensures { λ r. ⌜ (r ≡ packed (answerOf (verdict (now (model .entry)) (now (table .entry)) (length (now (work .entry)))))) × (now (work .exit) ≡ nodeWork (now (model .entry)) (now (table .entry)) (now (work .entry))) ⌝ }
+{
+    pack(rules::check(model, table, work))
+}
+
+// The name of a symbol, as start x 2^32 + length in the model; length 0 for a number that is no symbol's, and for a bad model.
+#[no_mangle]
+pub extern "C" fn plaitcrumb_name(model: &[u8], index: usize) -> u64
+    ensures { λ r. ⌜ r ≡ namePlace (now (model .entry)) index ⌝ }
+{
+    let book = book::fault(model);
+    if let Outcome::Fault(_, _, _) = book {
+        return 0;
+    }
+    if fields::symbols(model) <= index {
+        return 0;
+    }
+    let start = fields::name_start(model, index);
+    let length = raw::wide(fields::name_length(model, index));
+    4294967296 * (start as u64) + (length as u64)
+}
