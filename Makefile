@@ -5,6 +5,9 @@
 # Proves and builds what it needs, and answers the clock tree: the tables by the proved archive, and the ten cases P1 to P10 that
 # the prover computed from the definitions.
 demo: lib
+	@rt check desk > build/desk.log 2>&1 || { tail -n 30 build/desk.log; exit 1; }
+	@printf 'the program, on the released model with TICK off: '
+	@target/bin/desk < crates/desk/stdin
 	@examples/run.sh
 	@echo "P1 to P10 and the line 11 1 65535 TICK: proved of the definitions, crates/meaning/specs/Cases.antt (worked, printed)."
 

@@ -33,9 +33,9 @@ fn digit_of(d: u32) -> u8
 }
 
 // A number's spelling: the bytes from at on.
-struct Spelling {
-    bytes: [u8; 14],
-    at: usize,
+pub struct Spelling {
+    pub bytes: [u8; 14],
+    pub at: usize,
 }
 
 // The digits of v at the end, with two bytes or more before them.
@@ -61,6 +61,13 @@ fn spell(base: u32, v: u32) -> Spelling
         bytes: bytes,
         at: at,
     }
+}
+
+// The decimal digits of v: 12 at most.
+pub fn decimal(v: u32) -> Spelling
+    ensures { λ r. ⌜ (2 ≤ r .at) × (r .at ≤ 14) × (length (r .bytes) ≡ 14) × (drop (r .at) (r .bytes) ≡ digits 10 12 v []) ⌝ }
+{
+    spell(10, v)
 }
 
 // 0x and the digits of v.

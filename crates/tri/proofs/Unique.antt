@@ -13,7 +13,7 @@ use Rattle.tri.proofs.Tri.or.Kinds as or-kinds
 use Rattle.tri.proofs.Tri.or.Reads as or-reads
 
 -- `v` is all that a Tri has
-by-v : {a b : Tri} {v : ℕ} → a .v ≡ v → b .v ≡ v → a ≡ b
+pub by-v : {a b : Tri} {v : ℕ} → a .v ≡ v → b .v ≡ v → a ≡ b
 by-v p q = ap (λ (v : ℕ). record { v = v }) (p ∙ sym q)
 
 pub of-once : Once 0 of-kinds.ps of-kinds.r of-reads.Post
