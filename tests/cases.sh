@@ -9,7 +9,7 @@ cargo build --offline --release --quiet --manifest-path tests/second/Cargo.toml
 second=$CARGO_TARGET_DIR/release/second
 new=$(mktemp -d)
 trap 'rm -rf "$new"' EXIT
-{ "$second" named | "$second" only 0 2; "$second" gen 1 2100 tables; "$second" gen 2 100 names; } > "$new/stdin"
+{ "$second" named | "$second" only 0 1 2; "$second" gen 1 2100 tables; "$second" gen 2 100 names; "$second" gen 3 3000 findings; } > "$new/stdin"
 "$second" answers < "$new/stdin" > "$new/stdout"
 if [ "${1:-}" = --check ]; then
     cmp "$new/stdin" crates/runs/stdin

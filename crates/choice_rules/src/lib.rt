@@ -13,7 +13,7 @@ use meaning::Outcome;
 use tri::Tri;
 
 // The symbol that is choice c's member j.
-fn member(m: &[u8], c: usize, j: usize) -> usize
+pub fn member(m: &[u8], c: usize, j: usize) -> usize
     requires { ⌜ (c < 65536) × (j < 131072) ⌝ }
     ensures { λ r. ⌜ (r ≡ memberOf (now (m .entry)) c j) × (r < 65536) ⌝ }
 {
@@ -29,7 +29,7 @@ fn member_value(m: &[u8], t: &[u8], c: usize, j: usize) -> Tri
 }
 
 // One more where the test holds.
-fn counted(holds: bool, n: usize) -> usize
+pub fn counted(holds: bool, n: usize) -> usize
     requires { ⌜ n < 131072 ⌝ }
     ensures { λ r. ⌜ r ≡ pick holds 1 0 + n ⌝ }
 {

@@ -7,6 +7,7 @@ ghost use lib.ListN.{length};
 ghost use Rattle.meaning.specs.Base.{answerOf, packed};
 ghost use Rattle.meaning.specs.Book.{namePlace};
 ghost use Rattle.meaning.specs.Rules.{verdict, nodeWork};
+ghost use Rattle.meaning.specs.Findings.{findingOutcome, findingNodeWork, findingSymbolWork};
 use meaning::Outcome;
 
 // An outcome's three numbers in one: answer x 2^32 + place x 2^16 + second.
@@ -25,6 +26,19 @@ pub extern "C" fn plaitcrumb_check_table(model: &[u8], table: &[u8], work: &mut 
     ensures { λ r. ⌜ (r ≡ packed (answerOf (verdict (now (model .entry)) (now (table .entry)) (length (now (work .entry)))))) × (now (work .exit) ≡ nodeWork (now (model .entry)) (now (table .entry)) (now (work .entry))) ⌝ }
 {
     pack(rules::check(model, table, work))
+}
+
+// The finding check.
+#[no_mangle]
+pub extern "C" fn plaitcrumb_check_finding(
+    model: &[u8],
+    finding: &[u8],
+    nodework: &mut [u8],
+    symbolwork: &mut [u8],
+) -> u64
+    ensures { λ r. ⌜ (r ≡ packed (answerOf (findingOutcome (now (model .entry)) (now (finding .entry)) (length (now (nodework .entry))) (length (now (symbolwork .entry)))))) × (now (nodework .exit) ≡ findingNodeWork (now (model .entry)) (now (finding .entry)) (now (nodework .entry)) (now (symbolwork .entry))) × (now (symbolwork .exit) ≡ findingSymbolWork (now (model .entry)) (now (finding .entry)) (now (nodework .entry)) (now (symbolwork .entry))) ⌝ }
+{
+    pack(findings::check(model, finding, nodework, symbolwork))
 }
 
 // The name of a symbol, as start x 2^32 + length in the model; length 0 for a number that is no symbol's, and for a bad model.

@@ -1,7 +1,7 @@
 // Runs each case of standard input and writes a line for each: the case's name, then what the checks answer. What it must
 // write, the file 'stdout', the second program made.
 //
-// A case is seven u32, little-endian: kind (0 table check, 2 name), then the lengths of name, model, second, node work and
+// A case is seven u32, little-endian: kind (0 table check, 1 finding check, 2 name), then the lengths of name, model, second, node work and
 // symbol work, and the index asked for; then those bytes.
 ghost use mathlib.Core.Path.{_≡_};
 ghost use lib.ListN.{length};
@@ -52,12 +52,27 @@ fn table_case(model: &[u8], table: &[u8], work: &mut [u8]) {
     io::write_all(STDOUT_FILENO, b"/");
 }
 
-fn run_case(kind: u32, index: usize, model: &[u8], second: &[u8], work: &mut [u8]) {
-    if kind == 0 {
-        table_case(model, second, work);
-        return;
+fn finding_case(model: &[u8], finding: &[u8], work: &mut [u8], marks: &mut [u8]) {
+    let o = findings::check(model, finding, work, marks);
+    numbers(o);
+    bytes(work);
+    io::write_all(STDOUT_FILENO, b"/");
+    bytes(marks);
+}
+
+fn run_case(
+    kind: u32,
+    index: usize,
+    model: &[u8],
+    second: &[u8],
+    work: &mut [u8],
+    marks: &mut [u8],
+) {
+    match kind {
+        0 => table_case(model, second, work),
+        1 => finding_case(model, second, work, marks),
+        _ => bytes(book::name(model, index)),
     }
-    bytes(book::name(model, index));
 }
 
 // Reads the bytes of one case and runs it.
@@ -68,14 +83,16 @@ fn case_of(
     model: &mut [u8],
     second: &mut [u8],
     work: &mut [u8],
+    marks: &mut [u8],
 ) {
     io::read_full(0, name);
     io::read_full(0, model);
     io::read_full(0, second);
     io::read_full(0, work);
+    io::read_full(0, marks);
     io::write_all(STDOUT_FILENO, name);
     io::write_all(STDOUT_FILENO, b" ");
-    run_case(kind, index, model, second, work);
+    run_case(kind, index, model, second, work, marks);
     io::write_all(STDOUT_FILENO, b"\n");
 }
 
@@ -99,11 +116,13 @@ fn one_case() -> bool {
     let m = size(&head, 8);
     let t = size(&head, 12);
     let w = size(&head, 16);
+    let z = size(&head, 20);
     let index = raw::word(&head, 24) as usize;
     let mut name = room();
     let mut model = room();
     let mut second = room();
     let mut work = room();
+    let mut marks = room();
     case_of(
         kind,
         index,
@@ -111,6 +130,7 @@ fn one_case() -> bool {
         &mut model[0..m],
         &mut second[0..t],
         &mut work[0..w],
+        &mut marks[0..z],
     );
     true
 }

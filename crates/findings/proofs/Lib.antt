@@ -1,0 +1,5 @@
+pub mod Heads
+pub mod Walks
+pub mod Rooms
+pub mod Bodies
+pub mod Checks

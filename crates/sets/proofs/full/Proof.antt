@@ -1,0 +1,24 @@
+-- `sets::full` meets its contract: number by number.
+use Rattle.meaning.specs.Sets.{full}
+use borrow.Author.Tests.{eqb-true, ne-eqb, le-leb, lt-leb, eq-eqb}
+use mathlib.Core.Path.{_≡_, refl, sym, _∙_, ap}
+use borrow.Author.Needs.{needs}
+use Rattle.sets.proofs.full.Statement.{statement}
+use Rattle.sets.proofs.full.Tie as tie
+use Rattle.sets.proofs.full.Reads as reads
+use Rattle.sets.proofs.full.Lts as lts
+
+returns : tie.Need-returns
+unfolding full
+returns c = rw (c .match .keys1)
+
+returns-2 : tie.Need-returns-2
+unfolding full
+returns-2 c = rw (c .match .keys2)
+
+returns-3 : tie.Need-returns-3
+unfolding full
+returns-3 c = rw (ne-eqb _ 0 (c .match .rest .0 .1), ne-eqb _ 1 (c .match .rest .1))
+
+pub full-spec : {M : Type 1} → statement M
+full-spec = tie.close (tie.spec returns returns-2 returns-3)

@@ -1,0 +1,410 @@
+// Sets of the three values, and what each node, Lower and Default may be on a path of a clearance.
+//
+// A set is a byte: 1 for n, 2 for m, 4 for y, added up. `ys` has the symbols' sets. The node work keeps the set of a node once it
+// is worked out, so that only what is read is worked out, and that once.
+ghost use mathlib.Core.Path.{_≡_};
+ghost use Prim.Native.Nat.{ℕ, _+_, _<_, _≤_, _^_};
+ghost use mathlib.Core.List.{[]};
+ghost use lib.Dec.{eqb};
+ghost use lib.ListN.{length};
+ghost use Rattle.tri.specs.Three.{triOf, andOf, orOf};
+ghost use Rattle.meaning.specs.Base.{pick, fold};
+ghost use Rattle.meaning.specs.Book.{nodes as nodesOf, defaults as defaultsOf};
+ghost use Rattle.meaning.specs.Sets.{has as hasOf, setOf, only as onlyOf, full as fullOf, withOne, join as joinOf, row, pairs as pairsOf};
+ghost use Rattle.meaning.specs.Sets.{least as leastOf, most as mostOf, sat, leafSet, isFree, spelledAt, equalAt, equalSet, notSet, nodeSets};
+ghost use Rattle.meaning.specs.Sets.{givenSet, lowerSetStep, lowerSet, chooseSet, defaultSetStep, defaultSet};
+ghost use Rattle.meaning.specs.Findings.{zeroed};
+ghost use Rattle.spell.specs.Leaves.{spelledLeaf};
+ghost use Rattle.sets.specs.Work.{applied, equalityOf, among, Known};
+use spell::Leaf;
+use tri::Tri;
+
+// How deep a node's operands are followed before all nodes below are worked out in order instead.
+const DEPTH: usize = 4;
+
+// Whether a set has a value.
+pub fn has(a: u8, v: u8) -> bool
+    ensures { λ r. ⌜ r ≡ hasOf a v ⌝ }
+{
+    match v {
+        0 => a % 2 == 1,
+        1 => a / 2 % 2 == 1,
+        2 => a / 4 % 2 == 1,
+        _ => false,
+    }
+}
+
+// x where told, else nothing.
+fn bit(told: bool, x: u8) -> u8
+    ensures { λ r. ⌜ (r ≡ pick told x 0) × (r ≤ x) ⌝ }
+{
+    if told { x } else { 0 }
+}
+
+// The set of those of n, m and y that are told.
+fn set_of(n: bool, m: bool, y: bool) -> u8
+    ensures { λ r. ⌜ (r ≡ setOf n m y) × (r < 8) ⌝ }
+{
+    bit(n, 1) + bit(m, 2) + bit(y, 4)
+}
+
+// A set with one value more.
+fn with(a: u8, v: u8) -> u8
+    ensures { λ r. ⌜ (r ≡ withOne a v) × (r < 8) ⌝ }
+{
+    set_of(
+        has(a, 0) | (v == 0),
+        has(a, 1) | (v == 1),
+        has(a, 2) | (v == 2),
+    )
+}
+
+// The values of either set.
+fn join(a: u8, b: u8) -> u8
+    ensures { λ r. ⌜ (r ≡ joinOf a b) × (r < 8) ⌝ }
+{
+    set_of(
+        has(a, 0) | has(b, 0),
+        has(a, 1) | has(b, 1),
+        has(a, 2) | has(b, 2),
+    )
+}
+
+// One value alone.
+pub fn only(v: u8) -> u8
+    ensures { λ r. ⌜ r ≡ onlyOf v ⌝ }
+{
+    match v {
+        0 => 1,
+        1 => 2,
+        _ => 4,
+    }
+}
+
+// All that a type allows.
+pub fn full(kind: u8) -> u8
+    ensures { λ r. ⌜ r ≡ fullOf kind ⌝ }
+{
+    match kind {
+        0 => 5,
+        1 => 7,
+        _ => 1,
+    }
+}
+
+// A set's smallest value.
+pub fn least(a: u8) -> u8
+    ensures { λ r. ⌜ r ≡ leastOf a ⌝ }
+{
+    if has(a, 0) {
+        return 0;
+    }
+    if has(a, 1) { 1 } else { 2 }
+}
+
+// A set's largest value.
+pub fn most(a: u8) -> u8
+    ensures { λ r. ⌜ r ≡ mostOf a ⌝ }
+{
+    if has(a, 2) {
+        return 2;
+    }
+    if has(a, 1) { 1 } else { 0 }
+}
+
+// The set of symbol i; {n} past the end.
+pub fn at(ys: &[u8], i: usize) -> u8
+    ensures { λ r. ⌜ r ≡ sat (now (ys .entry)) i ⌝ }
+{
+    if i < ys.len() { ys[i] } else { 1 }
+}
+
+// Not, and, or by a node's op.
+fn apply(op: u8, x: u8, y: u8) -> u8
+    ensures { λ r. ⌜ r ≡ applied op x y ⌝ }
+{
+    let a = Tri { v: x };
+    let b = Tri { v: y };
+    let made = match op {
+        5 => a.not(),
+        6 => a.and(b),
+        _ => a.or(b),
+    };
+    made.v
+}
+
+// The second operand of an op: none for not.
+fn operand(op: u8, r: u8) -> u8
+    ensures { λ x. ⌜ x ≡ pick (eqb op 5) 1 r ⌝ }
+{
+    if op == 5 { 1 } else { r }
+}
+
+// What an op makes of every pair of a's and b's values.
+fn pairs(op: u8, a: u8, b: u8) -> u8
+    ensures { λ r. ⌜ (r ≡ pairsOf (applied op) a b) × (r < 8) ⌝ }
+{
+    let mut out: u8 = 0;
+    for x in 0u8..3 {
+        if has(a, x) {
+            for y in 0u8..3 {
+                if has(b, y) {
+                    out = with(out, apply(op, x, y));
+                }
+            }
+        }
+    }
+    out
+}
+
+// Not, of each value.
+fn opposite(a: u8) -> u8
+    ensures { λ r. ⌜ (r ≡ notSet a) × (r < 8) ⌝ }
+{
+    pairs(5, a, 1)
+}
+
+// The smaller, of each pair.
+fn both(a: u8, b: u8) -> u8
+    ensures { λ r. ⌜ (r ≡ pairsOf andOf a b) × (r < 8) ⌝ }
+{
+    pairs(6, a, b)
+}
+
+// The larger, of each pair.
+fn either(a: u8, b: u8) -> u8
+    ensures { λ r. ⌜ (r ≡ pairsOf orOf a b) × (r < 8) ⌝ }
+{
+    pairs(7, a, b)
+}
+
+// The set of a constant.
+fn constant(left: usize) -> u8
+    ensures { λ r. ⌜ r ≡ onlyOf (triOf left) ⌝ }
+{
+    match left {
+        0 => 1,
+        1 => 2,
+        _ => 4,
+    }
+}
+
+// The set of leaf i: a constant's value, a symbol's set, {n} for a text or a number.
+fn leaf_set(m: &[u8], ys: &[u8], i: usize) -> u8
+    requires { ⌜ i < 2 ^ 32 ⌝ }
+    ensures { λ r. ⌜ r ≡ leafSet (now (m .entry)) (now (ys .entry)) i ⌝ }
+{
+    let op = fields::op_of(m, i);
+    let left = fields::left_of(m, i);
+    match op {
+        0 => constant(left),
+        1 => at(ys, left),
+        _ => 1,
+    }
+}
+
+// Whether leaf i is a string, int or hex symbol.
+fn is_free(m: &[u8], i: usize) -> bool
+    requires { ⌜ i < 2 ^ 32 ⌝ }
+    ensures { λ r. ⌜ r ≡ isFree (now (m .entry)) i ⌝ }
+{
+    (fields::op_of(m, i) == 1) & !fields::is_three(m, fields::left_of(m, i))
+}
+
+// Leaf i where its value is v.
+fn leaf_at(m: &[u8], i: usize, v: u8) -> Leaf
+    requires { ⌜ i < 2 ^ 32 ⌝ }
+    ensures { λ r. ⌜ spelledLeaf (now (m .entry)) [] r ≡ spelledAt (now (m .entry)) i v ⌝ }
+{
+    if fields::op_of(m, i) <= 1 {
+        return Leaf::Three(v);
+    }
+    values::leaf(m, raw::part(m, 0, 0), i)
+}
+
+// y where leaf i with value v and leaf j with value x are spelled alike, else n.
+fn equal_at(m: &[u8], i: usize, j: usize, v: u8, x: u8) -> u8
+    requires { ⌜ (i < 2 ^ 32) × (j < 2 ^ 32) ⌝ }
+    ensures { λ r. ⌜ r ≡ equalAt (now (m .entry)) i j v x ⌝ }
+{
+    if spell::same_spelling(m, raw::part(m, 0, 0), leaf_at(m, i, v), leaf_at(m, j, x)) {
+        2
+    } else {
+        0
+    }
+}
+
+// Whether leaves i and j are equal, for every pair of a's and b's values.
+fn equal_pairs(m: &[u8], i: usize, j: usize, a: u8, b: u8) -> u8
+    requires { ⌜ (i < 2 ^ 32) × (j < 2 ^ 32) ⌝ }
+    ensures { λ r. ⌜ (r ≡ pairsOf (equalAt (now (m .entry)) i j) a b) × (r < 8) ⌝ }
+{
+    let mut out: u8 = 0;
+    for x in 0u8..3 {
+        if has(a, x) {
+            for y in 0u8..3 {
+                if has(b, y) {
+                    out = with(out, equal_at(m, i, j, x, y));
+                }
+            }
+        }
+    }
+    out
+}
+
+// The set of an equality of leaves i and j: either, where one is a string, int or hex symbol.
+fn equal_set(m: &[u8], ys: &[u8], i: usize, j: usize) -> u8
+    requires { ⌜ (i < 2 ^ 32) × (j < 2 ^ 32) ⌝ }
+    ensures { λ r. ⌜ (r ≡ equalSet (now (m .entry)) (now (ys .entry)) i j) × (r < 8) ⌝ }
+{
+    if is_free(m, i) | is_free(m, j) {
+        return 5;
+    }
+    equal_pairs(m, i, j, leaf_set(m, ys, i), leaf_set(m, ys, j))
+}
+
+// The set of an equality of leaves i and j, or of what is unlike, by a node's op.
+fn equality(m: &[u8], ys: &[u8], op: u8, i: usize, j: usize) -> u8
+    requires { ⌜ (i < 2 ^ 32) × (j < 2 ^ 32) ⌝ }
+    ensures { λ r. ⌜ (r ≡ equalityOf (now (m .entry)) (now (ys .entry)) op i j) × (r < 8) ⌝ }
+{
+    match op {
+        8 => equal_set(m, ys, i, j),
+        9 => opposite(equal_set(m, ys, i, j)),
+        _ => 1,
+    }
+}
+
+// The set of node i among the first n. Past `depth` operands, all that stand before it are worked out in order first.
+fn node_among(m: &&[u8], ys: &&[u8], w: &mut [u8], n: usize, i: usize, depth: usize) -> u8
+    requires { ⌜ (i < 2 ^ 32) × (n ≤ nodesOf (now (now m))) × Known (now (now m)) (now (now ys)) (now w) ⌝ }
+    ensures { λ r. ⌜ (r ≡ among (now (now (m .entry))) (now (now (ys .entry))) n i) × Known (now (now (m .entry))) (now (now (ys .entry))) (now (w .exit)) ⌝ }
+{
+    if n <= i {
+        return 1;
+    }
+    let known = raw::byte(w, i);
+    if known != 0 {
+        return known - 8;
+    }
+    let op = fields::op_of(*m, i);
+    if op <= 4 {
+        let set = leaf_set(*m, *ys, i);
+        if set < 8 {
+            raw::put(w, i, 8 + set);
+        }
+        return set;
+    }
+    if depth == 0 {
+        for k in 0..i {
+            node_among(m, ys, w, k + 1, k, 1);
+        }
+    }
+    let deeper = if depth == 0 { 0 } else { depth - 1 };
+    let left = fields::left_of(*m, i);
+    let right = fields::right_of(*m, i);
+    if op <= 7 {
+        let l = node_among(m, ys, w, i, left, deeper);
+        let r = node_among(m, ys, w, i, right, deeper);
+        let set = pairs(op, l, operand(op, r));
+        raw::put(w, i, 8 + set);
+        return set;
+    }
+    let set = equality(*m, *ys, op, left, right);
+    raw::put(w, i, 8 + set);
+    set
+}
+
+// The set of node i.
+pub fn node(m: &[u8], ys: &[u8], w: &mut [u8], i: usize) -> u8
+    requires { ⌜ (i < 2 ^ 32) × Known (now m) (now ys) (now w) ⌝ }
+    ensures { λ r. ⌜ (r ≡ sat (nodeSets (now (m .entry)) (now (ys .entry))) i) × Known (now (m .entry)) (now (ys .entry)) (now (w .exit)) ⌝ }
+{
+    let known = raw::byte(w, i);
+    if known != 0 {
+        return known - 8;
+    }
+    let n = fields::nodes(m);
+    node_among(&m, &ys, w, n, i, DEPTH)
+}
+
+// What select k may give its target.
+fn given(m: &[u8], ys: &[u8], w: &mut [u8], k: usize) -> u8
+    requires { ⌜ (k < 2 ^ 32) × Known (now m) (now ys) (now w) ⌝ }
+    ensures { λ r. ⌜ (r ≡ givenSet (now (m .entry)) (now (ys .entry)) (nodeSets (now (m .entry)) (now (ys .entry))) k) × Known (now (m .entry)) (now (ys .entry)) (now (w .exit)) ⌝ }
+{
+    let condition = node(m, ys, w, fields::condition_of(m, k));
+    both(at(ys, fields::selector_of(m, k)), condition)
+}
+
+// Lower's set so far, with select k added if it is on s.
+fn raised(m: &[u8], ys: &[u8], w: &mut [u8], s: usize, k: usize, low: u8) -> u8
+    requires { ⌜ (k < 2 ^ 32) × Known (now m) (now ys) (now w) ⌝ }
+    ensures { λ r. ⌜ (r ≡ lowerSetStep (now (m .entry)) (now (ys .entry)) (nodeSets (now (m .entry)) (now (ys .entry))) s k low) × Known (now (m .entry)) (now (ys .entry)) (now (w .exit)) ⌝ }
+{
+    if fields::target_of(m, k) != s {
+        return low;
+    }
+    either(low, given(m, ys, w, k))
+}
+
+// Lower's set of symbol s.
+pub fn lower(m: &[u8], ys: &[u8], w: &mut [u8], s: usize) -> u8
+    requires { ⌜ Known (now m) (now ys) (now w) ⌝ }
+    ensures { λ r. ⌜ (r ≡ lowerSet (now (m .entry)) (now (ys .entry)) (nodeSets (now (m .entry)) (now (ys .entry))) s) × Known (now (m .entry)) (now (ys .entry)) (now (w .exit)) ⌝ }
+{
+    let n = fields::selects(m);
+    let mut low: u8 = 1;
+    for k in 0..n {
+        low = raised(m, ys, w, s, k, low);
+    }
+    low
+}
+
+// A default's set where its condition may be above n, and what comes later where it may be n.
+fn choose(condition: u8, value: u8, later: u8) -> u8
+    ensures { λ r. ⌜ r ≡ chooseSet condition value later ⌝ }
+{
+    let here = bit(has(condition, 1) | has(condition, 2), value);
+    let past = bit(has(condition, 0), later);
+    join(here, past)
+}
+
+// Default's set so far, from the last default on, with the one j before the last if it is on s.
+fn covered(m: &[u8], ys: &[u8], w: &mut [u8], s: usize, j: usize, later: u8) -> u8
+    requires { ⌜ (j < defaultsOf (now m)) × Known (now m) (now ys) (now w) ⌝ }
+    ensures { λ r. ⌜ (r ≡ defaultSetStep (now (m .entry)) (nodeSets (now (m .entry)) (now (ys .entry))) s j later) × Known (now (m .entry)) (now (ys .entry)) (now (w .exit)) ⌝ }
+{
+    let d = fields::defaults(m) - 1 - j;
+    if fields::default_symbol(m, d) != s {
+        return later;
+    }
+    let condition = node(m, ys, w, fields::default_condition(m, d));
+    let value = node(m, ys, w, fields::default_value(m, d));
+    choose(condition, value, later)
+}
+
+// Default's set of symbol s.
+pub fn default_of(m: &[u8], ys: &[u8], w: &mut [u8], s: usize) -> u8
+    requires { ⌜ Known (now m) (now ys) (now w) ⌝ }
+    ensures { λ r. ⌜ (r ≡ defaultSet (now (m .entry)) (nodeSets (now (m .entry)) (now (ys .entry))) s) × Known (now (m .entry)) (now (ys .entry)) (now (w .exit)) ⌝ }
+{
+    let n = fields::defaults(m);
+    let mut later: u8 = 1;
+    for j in 0..n {
+        later = covered(m, ys, w, s, j, later);
+    }
+    later
+}
+
+// Writes zero over the first n bytes.
+pub fn clear(w: &mut [u8], n: usize)
+    requires { ⌜ n ≤ length (now w) ⌝ }
+    ensures { λ _. ⌜ now (w .exit) ≡ zeroed n (now (w .entry)) ⌝ }
+{
+    let mut i: usize = 0;
+    while i < n {
+        w[i] = 0;
+        i += 1;
+    }
+}
