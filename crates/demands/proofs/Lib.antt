@@ -1,0 +1,5 @@
+pub mod Bools
+pub mod Counts
+pub mod Contents
+pub mod Lower
+pub mod Defaults
