@@ -75,3 +75,13 @@ module _ (a b : ℕ) where
 
   pub denies-eq : Denies (eqb a b) (a ≡ b → ⊥)
   denies-eq = (eqb-false a b, ne-eqb a b)
+
+-- n or above it
+pub denies-pos : (a : ℕ) → Denies (ltb 0 a) (a ≡ 0)
+denies-pos a = (λ e. omega (arith, ltb-false 0 a e), λ z. rw z)
+
+pub denies-zero : (a : ℕ) → Denies (eqb a 0) (0 < a)
+denies-zero a = (λ e. let n = eqb-false a 0 e in omega arith, λ l. ne-eqb a 0 (λ z. omega arith))
+
+pub or-assoc : {P Q R : Type 0} → ((P ⊎ Q) ⊎ R) ↔ (P ⊎ (Q ⊎ R))
+or-assoc = (⊎-elim (⊎-elim inl (λ q. inr (inl q))) (λ r. inr (inr r)), ⊎-elim (λ p. inl (inl p)) (⊎-elim (λ q. inl (inr q)) inr))

@@ -139,9 +139,9 @@ within-range low high (aHex x) e =
     inr (a .0, b .0, x, a .1, b .1, refl, leb-true (a .0) x (a .2), leb-true x (b .0) (b .2))
 
 range-within : (low high v : Content) → IntRange low high v ⊎ HexRange low high v → within low high v ≡ true
-range-within low high v (inl h) = 
+range-within low high v (inl h) =
     rw (h .3, h .4, h .5, says-order (h .0) (h .2) .1 (h .6)) (says-order (h .2) (h .1) .1 (h .7))
-range-within low high v (inr h) = 
+range-within low high v (inr h) =
     rw (h .3, h .4, h .5, le-leb (h .0) (h .2) (h .6)) (le-leb (h .2) (h .1) (h .7))
 
 pub says-within : (low high v : Content) → Says (within low high v) (IntRange low high v ⊎ HexRange low high v)

@@ -64,8 +64,7 @@ module _ (m t : List ℕ) {s : ℕ} where
       where
         by : {x : A} → DefaultFrom m (conditionValue m (nodeValues m t)) has none s (defaults m - defaults m) x → IsDefault m t s has none x
         by (inl h) =
-            inl
-            (
+            inl (
               h .0,
               record { stands = h .1; on = h .2; applies = h .3; before = λ e lt on. h .4 e (omega arith) lt on },
               h .5,

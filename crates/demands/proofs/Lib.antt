@@ -3,3 +3,8 @@ pub mod Counts
 pub mod Contents
 pub mod Lower
 pub mod Defaults
+pub mod Finds
+pub mod Each
+pub mod Searched
+pub mod ValidIff
+pub mod FirstBroken

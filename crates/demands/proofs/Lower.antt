@@ -24,7 +24,7 @@ module _ (m : List ℕ) (gives : ℕ → ℕ) (s : ℕ) where
   by-more n l true e h =
       record {
         bounds = λ k lt on.
-          ⊎-elim (λ q. rw q (omega arith)) (λ below. omega (arith, h .bounds k below on)) (eq-or-lt-of-le (le-of-suc-le-suc lt));
+            ⊎-elim (λ q. rw q (omega arith)) (λ below. omega (arith, h .bounds k below on)) (eq-or-lt-of-le (le-of-suc-le-suc lt));
         reached = larger (leb l (gives n)) refl;
       }
     where
@@ -37,8 +37,8 @@ module _ (m : List ℕ) (gives : ℕ → ℕ) (s : ℕ) where
   by-more n l false e h =
       record {
         bounds = λ k lt on.
-          ⊎-elim (λ q. absurd (eqb-false (targetOf m n) s e (subst (λ i. targetOf m i ≡ s) q on))) (λ below. h .bounds k below on)
-          (eq-or-lt-of-le (le-of-suc-le-suc lt));
+            ⊎-elim (λ q. absurd (eqb-false (targetOf m n) s e (subst (λ i. targetOf m i ≡ s) q on))) (λ below. h .bounds k below on)
+            (eq-or-lt-of-le (le-of-suc-le-suc lt));
         reached = ⊎-elim inl (λ x. inr (x .0, omega (arith, x .1), x .2, x .3)) (h .reached);
       }
 

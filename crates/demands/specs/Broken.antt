@@ -109,7 +109,7 @@ module _ (m t : List ℕ) where
   IsYes c j = (j < memberCount m c) × (Member m t c j ≡ 2)
 
   abbrev pub IsOtherThan : ℕ → ℕ → ℕ → Type 0
-  IsOtherThan c i j = (j < memberCount m c) × (0 < Member m t c j) × (j ≢ i)
+  IsOtherThan c i j = (j < memberCount m c) × ((0 < Member m t c j) × (j ≢ i))
 
   abbrev pub IsModule : ℕ → ℕ → Type 0
   IsModule c j = (j < memberCount m c) × (Member m t c j ≡ 1)
