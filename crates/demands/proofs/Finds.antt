@@ -9,10 +9,11 @@ use native.Mathlib.Nat.{not-suc-le-zero, eq-or-lt-of-le, le-of-suc-le-suc}
 use native.Mathlib.Omega.{arith}
 use Rattle.meaning.specs.declared.Outcome.{Outcome}
 use Rattle.meaning.specs.declared.Outcome.the-variants.{Clean, Fault}
-use Rattle.meaning.specs.Base.{when, orElse, firstBelow, answerOf}
+use Rattle.meaning.specs.Base.{when, orElse, firstBelow}
 use Rattle.meaning.proofs.First.{IsClean, a-fault}
 use Rattle.demands.specs.Broken.{Spot, ruleOf, placeOf, inTurn, All, FirstNot, Holds, Second}
 use Rattle.demands.proofs.Bools.{Denies}
+use Rattle.demands.proofs.Faults.{same-number, same-place, same-second}
 
 module _ (P : Spot → Type 0) where
   pub all-append : (a b : List Spot) → All P (a ++ b) ↔ (All P a × All P b)
@@ -52,20 +53,6 @@ module _ (P : Spot → Type 0) where
   first-unique (z ∷ a) x y (inl h) (inr k) = absurd (h .1 (subst P (h .0) (k .0)))
   first-unique (z ∷ a) x y (inr h) (inl k) = absurd (k .1 (subst P (k .0) (h .0)))
   first-unique (z ∷ a) x y (inr h) (inr k) = first-unique a x y (h .1) (k .1)
-
--- two faults are equal exactly where their three numbers are
-module _ {n p s n′ p′ s′ : ℕ} (e : Fault n p s ≡ Fault n′ p′ s′) where
-  pub same-number : n ≡ n′
-  same-number = ap (λ o. answerOf o .number) e
-
-  pub same-place : p ≡ p′
-  same-place = ap (λ o. answerOf o .place) e
-
-  pub same-second : s ≡ s′
-  same-second = ap (λ o. answerOf o .second) e
-
-pub same-fault : {n p s n′ p′ s′ : ℕ} → n ≡ n′ → p ≡ p′ → s ≡ s′ → Fault n p s ≡ Fault n′ p′ s′
-same-fault e f g = rw (e, f, g)
 
 module _ (m t : List ℕ) where
   abbrev pub Found : List Spot → ℕ → ℕ → ℕ → Type 0

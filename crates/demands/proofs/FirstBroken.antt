@@ -10,7 +10,8 @@ use Rattle.meaning.specs.Book.{memberOf}
 use Rattle.meaning.specs.Rules.{ruleFault}
 use Rattle.demands.specs.Broken.{Spot, typed, lower, upper, default, range, one, kind, mandatory, modules, ruleOf, placeOf, listed, Least, IsOtherThan, Holds, Second, FirstBroken}
 use Rattle.demands.proofs.Counts.{least-unique}
-use Rattle.demands.proofs.Finds.{first-none, first-unique, same-fault}
+use Rattle.demands.proofs.Faults.{same-fault}
+use Rattle.demands.proofs.Finds.{first-none, first-unique}
 use Rattle.demands.proofs.Searched.{rules-found}
 
 second-unique : (m t : List ℕ) (x : Spot) {a b : ℕ} → Second m t x a → Second m t x b → a ≡ b

@@ -3,8 +3,10 @@ pub mod Counts
 pub mod Contents
 pub mod Lower
 pub mod Defaults
+pub mod Faults
 pub mod Finds
 pub mod Each
 pub mod Searched
 pub mod ValidIff
 pub mod FirstBroken
+pub mod Witness
