@@ -84,15 +84,16 @@ module _ (p : ℕ → Bool) where
       (λ h. ((h .0, h .1), λ k l q. false≢true (sym (h .2 k l) ∙ q .1)))
       (ends n)
 
+-- one of two numbers is less, or they are equal
+pub order : (a b : ℕ) → (a < b) ⊎ ((a ≡ b) ⊎ (b < a))
+order a b = by (ltb a b) (ltb b a) refl refl
+  where
+    by : (x y : Bool) → ltb a b ≡ x → ltb b a ≡ y → (a < b) ⊎ ((a ≡ b) ⊎ (b < a))
+    by true y e f = inl (ltb-true a b e)
+    by false true e f = inr (inr (ltb-true b a f))
+    by false false e f = inr (inl (omega (arith, ltb-false a b e, ltb-false b a f)))
+
 -- there is one least only
 pub least-unique : {P : ℕ → Type 0} {i j : ℕ} → Least P i → Least P j → i ≡ j
 least-unique {i = i} {j = j} h k =
     ⊎-elim (λ l. absurd (k .1 i l (h .0))) (⊎-elim (λ e. e) (λ l. absurd (h .1 j l (k .0)))) (order i j)
-  where
-    order : (a b : ℕ) → (a < b) ⊎ ((a ≡ b) ⊎ (b < a))
-    order a b = by (ltb a b) (ltb b a) refl refl
-      where
-        by : (x y : Bool) → ltb a b ≡ x → ltb b a ≡ y → (a < b) ⊎ ((a ≡ b) ⊎ (b < a))
-        by true y e f = inl (ltb-true a b e)
-        by false true e f = inr (inr (ltb-true b a f))
-        by false false e f = inr (inl (omega (arith, ltb-false a b e, ltb-false b a f)))

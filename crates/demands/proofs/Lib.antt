@@ -10,3 +10,4 @@ pub mod Searched
 pub mod ValidIff
 pub mod FirstBroken
 pub mod Witness
+pub mod BookParts

@@ -38,24 +38,23 @@ pub readable-iff : (t : List ℕ) (n : ℕ) → (tableFault t n ≡ Clean) ↔ R
 unfolding tableFault contentsFault bodiesFault
 readable-iff t n =
     let cut = clean-when 5 0 65535 (denies-cut t n) in
-    let ends = clean-when 5 0 65535 (denies-not (says-eq (bodyDue t n n) (length t))) in
-    (
+    let ends = clean-when 5 0 65535 (denies-not (says-eq (bodyDue t n n) (length t))) in (
       (λ e.
-        let a = orElse-iff _ _ .0 e in
-        let b = orElse-iff _ _ .0 (a .1) in
-        let c = cut .0 (a .0) in
-        record {
-          long = c .1;
-          whole = c .0 .0 .1;
-          counted = c .0 .1;
-          entry = λ s lt. entry-clean t n s .0 (clean-iff (entryAt t n) n .0 (b .0) s lt);
-          ended = ends .0 (b .1);
-        }),
+          let a = orElse-iff _ _ .0 e in
+          let b = orElse-iff _ _ .0 (a .1) in
+          let c = cut .0 (a .0) in
+          record {
+            long = c .1;
+            whole = c .0 .0 .1;
+            counted = c .0 .1;
+            entry = λ s lt. entry-clean t n s .0 (clean-iff (entryAt t n) n .0 (b .0) s lt);
+            ended = ends .0 (b .1);
+          }),
       (λ r.
-        orElse-iff _ _ .1 (
-          cut .1 (((omega (arith, r .long), r .whole), r .counted), r .long),
-          orElse-iff _ _ .1 (clean-iff (entryAt t n) n .1 (λ s lt. entry-clean t n s .1 (r .entry s lt)), ends .1 (r .ended)),
-        )),
+          orElse-iff _ _ .1 (
+            cut .1 (((omega (arith, r .long), r .whole), r .counted), r .long),
+            orElse-iff _ _ .1 (clean-iff (entryAt t n) n .1 (λ s lt. entry-clean t n s .1 (r .entry s lt)), ends .1 (r .ended)),
+          )),
     )
 
 -- UNMET, by its test
@@ -69,12 +68,11 @@ pub witness-iff : (m f : List ℕ) → WellFormed m
 unfolding witnessFault
 witness-iff m f w =
     let t = witnessTable f in
-    let met = clean-when 24 (selectOf f) 65535 (denies-not (says-unmet m t (selectOf f))) in
-    (
+    let met = clean-when 24 (selectOf f) 65535 (denies-not (says-unmet m t (selectOf f))) in (
       (λ e.
-        let a = orElse-iff _ _ .0 e in
-        let b = orElse-iff _ _ .0 (a .1) in
-        (readable-iff t (symbols m) .0 (a .0), valid-iff m t w .0 (b .0), met .0 (b .1))),
+          let a = orElse-iff _ _ .0 e in
+          let b = orElse-iff _ _ .0 (a .1) in
+          (readable-iff t (symbols m) .0 (a .0), valid-iff m t w .0 (b .0), met .0 (b .1))),
       (λ h.
-        orElse-iff _ _ .1 (readable-iff t (symbols m) .1 (h .0), orElse-iff _ _ .1 (valid-iff m t w .1 (h .1), met .1 (h .2)))),
+          orElse-iff _ _ .1 (readable-iff t (symbols m) .1 (h .0), orElse-iff _ _ .1 (valid-iff m t w .1 (h .1), met .1 (h .2)))),
     )
