@@ -2,7 +2,7 @@
 use Prim.Native.Nat.{ℕ, _≤_, _<_}
 use mathlib.Core.Path.{_≡_, refl, sym}
 use mathlib.Core.Bool.{Bool, true, false, _&&_, _||_, not, true≢false, false≢true}
-use mathlib.Core.Logic.{_⊎_, inl, inr, _↔_, ⊎-elim}
+use mathlib.Core.Logic.{_⊎_, inl, inr, _↔_, ⊎-elim, Iff·trans}
 use native.Mathlib.Omega.{arith}
 use lib.Dec.{eqb, leb, ltb}
 use borrow.Author.Tests.{ltb-true, ltb-false, leb-true, leb-false, eqb-true, eqb-false, lt-ltb, le-ltb, le-leb, lt-leb, eq-eqb, ne-eqb, not-true, not-false}
@@ -85,3 +85,6 @@ denies-zero a = (λ e. let n = eqb-false a 0 e in omega arith, λ l. ne-eqb a 0 
 
 pub or-assoc : {P Q R : Type 0} → ((P ⊎ Q) ⊎ R) ↔ (P ⊎ (Q ⊎ R))
 or-assoc = (⊎-elim (⊎-elim inl (λ q. inr (inl q))) (λ r. inr (inr r)), ⊎-elim (λ p. inl (inl p)) (⊎-elim (λ q. inl (inr q)) inr))
+
+pub or-four : {P Q R S : Type 0} → (((P ⊎ Q) ⊎ R) ⊎ S) ↔ (P ⊎ (Q ⊎ (R ⊎ S)))
+or-four = Iff·trans or-assoc or-assoc

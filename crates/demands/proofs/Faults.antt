@@ -153,3 +153,6 @@ module _ {P : ℕ → Type 0} where
 
 pub numbers-wide : {P Q : ℕ → Type 0} {o : Outcome} → ((n : ℕ) → P n → Q n) → Numbers P o → Numbers Q o
 numbers-wide f h = record { has = λ n p s e. f n (h .has n p s e) }
+
+pub numbers-of : {P : ℕ → Type 0} {o : Outcome} {G : Type 0} {B : ℕ → ℕ → ℕ → Type 0} → Search o G B → ((n p s : ℕ) → B n p s → P n) → Numbers P o
+numbers-of f h = record { has = λ n p s e. h n p s (f .fault n p s .0 e) }

@@ -9,5 +9,7 @@ pub mod Each
 pub mod Searched
 pub mod ValidIff
 pub mod FirstBroken
+pub mod Readable
 pub mod Witness
 pub mod BookParts
+pub mod Refusals

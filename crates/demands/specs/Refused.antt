@@ -65,18 +65,28 @@ module _ (m : List ℕ) where
 -- THE TABLE, for n symbols
 module _ (t : List ℕ) (n : ℕ) where
   -- 5: under 4 bytes, total or count wrong, contents cut
-  abbrev pub Cut : Type 0
-  Cut = (length t < 4) ⊎ ((half t 0 ≢ length t) ⊎ ((entries t ≢ n) ⊎ (length t < 4 + 4 * n)))
+  abbrev pub BadContents : Type 0
+  BadContents = (length t < 4) ⊎ ((half t 0 ≢ length t) ⊎ ((entries t ≢ n) ⊎ (length t < 4 + 4 * n)))
+
+  abbrev pub GoodContents : Type 0
+  GoodContents = (4 + 4 * n ≤ length t) × (half t 0 ≡ length t) × (entries t ≡ n)
 
   -- 6
   abbrev pub BadEntry : ℕ → Type 0
   BadEntry s = (s < n) × (entryOk t n s ≡ false)
 
+  abbrev pub GoodEntries : Type 0
+  GoodEntries = (s : ℕ) → s < n → entryOk t n s ≡ true
+
   -- 5, last: the bodies end before the total
-  abbrev pub Left : Type 0
-  Left = ((s : ℕ) → ¬ BadEntry s) × (bodyDue t n n < length t)
+  abbrev pub BytesLeft : Type 0
+  BytesLeft = bodyDue t n n < length t
 
 -- THE FINDING. 21: its length, a select that the book has not, another kind, no zero
 abbrev pub BadHead : List ℕ → List ℕ → Type 0
 BadHead m f =
     (length f < 4) ⊎ ((65535 < length f) ⊎ ((selects m ≤ selectOf f) ⊎ ((1 < findingKind f) ⊎ (getD f 3 0 ≢ 0))))
+
+abbrev pub GoodHead : List ℕ → List ℕ → Type 0
+GoodHead m f =
+    (4 ≤ length f) × (length f ≤ 65535) × (selectOf f < selects m) × (findingKind f ≤ 1) × (getD f 3 0 ≡ 0)
