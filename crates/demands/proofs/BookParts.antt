@@ -300,3 +300,18 @@ module _ (m : List ℕ) where
         );
         fault = all .fault;
       }
+
+-- by its four numbers
+pub book-cases :
+    (m : List ℕ) (n p s : ℕ) {R : Type 0}
+    → (BadLength m × (p ≡ 0) × (s ≡ 65535) → n ≡ 1 → R)
+    → (Sized m × BadSection m p × (s ≡ 65535) → n ≡ 2 → R)
+    → (Sized m × Chained m × BadRecord m p s → n ≡ 3 → R)
+    → (Sized m × Chained m × Recorded m × BadModules m × (p ≡ modulesOf m) × (s ≡ 65535) → n ≡ 4 → R)
+    → BadBook m n p s → R
+book-cases m n p s a b c d =
+    ⊎-elim (λ x. a (x .0, x .2, x .3) (x .1))
+    (λ x.
+    ⊎-elim (λ y. b (x .0, y .0, y .2) (y .1))
+    (λ y. ⊎-elim (λ z. c (x .0, y .0, z .0) (z .1)) (λ z. d (x .0, y .0, z .0, z .1 .0, z .1 .2, z .1 .3) (z .1 .1)) (y .1))
+    (x .1))

@@ -7,7 +7,7 @@ use mathlib.Core.Logic.{_⊎_, inl, inr, _↔_, ⊎-elim, Iff·trans, Iff·and}
 use native.Mathlib.Omega.{arith}
 use Rattle.meaning.specs.declared.Outcome.{Outcome}
 use Rattle.meaning.specs.declared.Outcome.the-variants.{Clean, Fault}
-use Rattle.meaning.specs.Base.{when, orElse, firstBelow, answerOf}
+use Rattle.meaning.specs.Base.{pick, when, orElse, firstBelow, answerOf}
 use Rattle.meaning.proofs.First.{IsClean, IsFault, a-fault, orElse-iff, when-iff, clean-iff, first-is, fault-first}
 use Rattle.demands.specs.Broken.{Least}
 use Rattle.demands.proofs.Bools.{Says, Denies, denies-it}
@@ -156,3 +156,25 @@ numbers-wide f h = record { has = λ n p s e. f n (h .has n p s e) }
 
 pub numbers-of : {P : ℕ → Type 0} {o : Outcome} {G : Type 0} {B : ℕ → ℕ → ℕ → Type 0} → Search o G B → ((n p s : ℕ) → B n p s → P n) → Numbers P o
 numbers-of f h = record { has = λ n p s e. h n p s (f .fault n p s .0 e) }
+
+pub numbers-pick : {P : ℕ → Type 0} (b : Bool) {a c : Outcome} → Numbers P a → Numbers P c → Numbers P (pick b a c)
+numbers-pick true h k = h
+numbers-pick false h k = k
+
+-- the number that is answered: 0, or the fault's
+pub numbers-answer : {P : ℕ → Type 0} (o : Outcome) → P 0 → Numbers P o → P (answerOf o .number)
+numbers-answer Clean z h = z
+numbers-answer (Fault n p s) z h = h .has n p s refl
+
+-- by a test, where the other side cannot have the number
+pub fault-pick : {P : ℕ → Type 0} {b : Bool} {Q : Type 0} (a c : Outcome) (n p s : ℕ) → Says b Q → Numbers P c → ¬ P n
+    → (pick b a c ≡ Fault n p s) ↔ (Q × (a ≡ Fault n p s))
+fault-pick {b = true} a c n p s says h not = ((λ e. (says .0 refl, e)), (λ x. x .1))
+fault-pick {b = false} a c n p s says h not =
+    ((λ e. absurd (not (h .has n p s e))), (λ x. absurd (false≢true (says .1 (x .0)))))
+
+pub fault-unpicked : {P : ℕ → Type 0} {b : Bool} {Q : Type 0} (a c : Outcome) (n p s : ℕ) → Denies b Q → Numbers P a → ¬ P n
+    → (pick b a c ≡ Fault n p s) ↔ (Q × (c ≡ Fault n p s))
+fault-unpicked {b = true} a c n p s denies h not =
+    ((λ e. absurd (not (h .has n p s e))), (λ x. absurd (true≢false (denies .1 (x .0)))))
+fault-unpicked {b = false} a c n p s denies h not = ((λ e. (denies .0 refl, e)), (λ x. x .1))

@@ -12,4 +12,7 @@ pub mod FirstBroken
 pub mod Readable
 pub mod Witness
 pub mod BookParts
+pub mod Rooms
+pub mod Numbers
 pub mod Refusals
+pub mod FindingRefusals

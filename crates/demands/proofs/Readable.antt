@@ -92,3 +92,21 @@ module _ (t : List ℕ) (n : ℕ) where
 
 pub readable-iff : (t : List ℕ) (n : ℕ) → (tableFault t n ≡ Clean) ↔ Readable t n
 readable-iff t n = table-search t n .clean
+
+module _ (t : List ℕ) (n p s : ℕ) where
+  pub table-fault-5 :
+      (tableFault t n ≡ Fault 5 p s)
+      ↔ ((BadContents t n ⊎ (GoodContents t n × GoodEntries t n × BytesLeft t n)) × (p ≡ 0) × (s ≡ 65535))
+  table-fault-5 =
+      Iff·trans (table-search t n .fault 5 p s) (
+        ⊎-elim (λ y. (inl (y .0), y .2, y .3))
+            (λ y. ⊎-elim (λ z. absurd (omega (arith, z .1))) (λ z. (inr (y .0, z .0, z .1 .0), z .1 .2, z .1 .3)) (y .1)),
+        (λ x. ⊎-elim (λ y. inl (y, refl, x .1, x .2)) (λ y. inr (y .0, inr (y .1, (y .2, refl, x .1, x .2)))) (x .0)),
+      )
+
+  pub table-fault-6 : (tableFault t n ≡ Fault 6 p s) ↔ (GoodContents t n × Least (BadEntry t n) p × (s ≡ 65535))
+  table-fault-6 =
+      Iff·trans (table-search t n .fault 6 p s) (
+        ⊎-elim (λ y. absurd (omega (arith, y .1))) (λ y. ⊎-elim (λ z. (y .0, z .0, z .2)) (λ z. absurd (omega (arith, z .1 .1))) (y .1)),
+        (λ x. inr (x .0, inl (x .1, refl, x .2))),
+      )

@@ -6,7 +6,7 @@ use mathlib.Core.Logic.{_⊎_, _≢_}
 use mathlib.Core.List.{List}
 use lib.ListN.{length, getD}
 use Rattle.meaning.specs.Base.{half}
-use Rattle.meaning.specs.Book.{total, start, count, endOf, due, symbols, selects, choices, members, typeOf, firstMember, memberCount, modulesOf, recordOk, memberDue, memberOk}
+use Rattle.meaning.specs.Book.{total, start, count, endOf, due, symbols, nodes, selects, choices, members, typeOf, firstMember, memberCount, modulesOf, recordOk, memberDue, memberOk, WellFormed}
 use Rattle.meaning.specs.Table.{entries, bodyDue, entryOk}
 use Rattle.meaning.specs.Findings.{selectOf, findingKind}
 use Rattle.demands.specs.Broken.{Least}
@@ -90,3 +90,17 @@ BadHead m f =
 abbrev pub GoodHead : List ℕ → List ℕ → Type 0
 GoodHead m f =
     (4 ≤ length f) × (length f ≤ 65535) × (selectOf f < selects m) × (findingKind f ≤ 1) × (getD f 3 0 ≡ 0)
+
+-- none of 1 to 4, 21, 7, 8
+abbrev pub Admitted : List ℕ → List ℕ → ℕ → ℕ → Type 0
+Admitted m f nodeRoom symbolRoom = WellFormed m × (GoodHead m f × ((nodes m ≤ nodeRoom) × (symbols m ≤ symbolRoom)))
+
+-- NUMBERS that the table check and the finding check answer
+abbrev pub Between : ℕ → ℕ → ℕ → Type 0
+Between low high n = (low ≤ n) × (n ≤ high)
+
+abbrev pub TableNumber : ℕ → Type 0
+TableNumber n = (n ≤ 7) ⊎ Between 10 18 n
+
+abbrev pub FindingNumber : ℕ → Type 0
+FindingNumber n = (n ≤ 8) ⊎ (Between 10 18 n ⊎ Between 21 24 n)
