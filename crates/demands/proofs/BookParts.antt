@@ -2,7 +2,7 @@
 -- and records are numbered as the document does, and members count by their index, since well-formed choices take them in order. Assumes nothing.
 use Prim.Native.Nat.{ℕ, zero, suc, _+_, _≤_, _<_}
 use mathlib.Core.Path.{_≡_, refl, sym, _∙_, ap, subst}
-use mathlib.Core.Bool.{Bool, true, false, _&&_, _||_, not, true≢false}
+use mathlib.Core.Bool.{Bool, true, false, _&&_, true≢false}
 use mathlib.Core.Logic.{_⊎_, inl, inr, _↔_, _≢_, ⊎-elim, Iff·rfl, Iff·trans}
 use mathlib.Core.List.{List}
 use native.Mathlib.Nat.{not-suc-le-zero, eq-or-lt-of-le, le-of-suc-le-suc}
@@ -10,14 +10,12 @@ use native.Mathlib.Numerals.{add-one}
 use native.Mathlib.Omega.{arith}
 use lib.Dec.{eqb, leb, ltb}
 use lib.ListN.{length}
-use borrow.Author.Tests.{eqb-true, ltb-true, ltb-false}
-use Rattle.meaning.specs.declared.Outcome.{Outcome}
-use Rattle.meaning.specs.declared.Outcome.the-variants.{Clean, Fault}
-use Rattle.meaning.specs.Base.{when, orElse, firstBelow}
-use Rattle.meaning.specs.Book.{total, start, count, endOf, due, symbols, nodes, choices, members, typeOf, choiceKind, mandatoryOf, choicePrompt, firstMember, memberCount, modulesOf, modulesDeclared, symbolOk, nodeOk, defaultOk, selectOk, rangeOk, memberDue, choiceOk, memberOk, lengthFault, chainAt, endFault, chainFault, recordOk, recordAt, sectionFault, unusedFault, memberAt, choiceMembersFault, membersFault, sectionAfter, recordsFault, modulesFault, bookFault, WellFormed}
+use borrow.Author.Tests.{eqb-true}
+use Rattle.meaning.specs.Base.{firstBelow}
+use Rattle.meaning.specs.Book.{total, start, count, endOf, due, symbols, nodes, choices, members, typeOf, choiceKind, mandatoryOf, choicePrompt, firstMember, memberCount, modulesOf, memberDue, choiceOk, memberOk, lengthFault, chainAt, endFault, chainFault, recordOk, recordAt, sectionFault, unusedFault, memberAt, choiceMembersFault, membersFault, sectionAfter, recordsFault, modulesFault, bookFault, WellFormed}
 use Rattle.demands.specs.Broken.{Least}
-use Rattle.demands.specs.Refused.{BadLength, Sized, Misplaced, Placed, BadSection, Chained, BadIn, GoodBelow, BadMember, GoodMembers, AllUsed, BadRecord, Recorded, BadModules}
-use Rattle.demands.proofs.Bools.{Says, Denies, says-and, says-or, says-not, denies-and, denies-or, denies-not, denies-it, says-lt, denies-lt, says-eq, denies-eq, both}
+use Rattle.demands.specs.Refused.{BadLength, Sized, BadSection, Chained, BadIn, GoodBelow, BadMember, BadRecord, Recorded, BadModules}
+use Rattle.demands.proofs.Bools.{says-unlike, denies-unlike, says-and, says-or, says-not, denies-and, denies-or, denies-not, denies-it, says-lt, denies-lt, says-eq, both}
 use Rattle.demands.proofs.Counts.{order}
 use Rattle.demands.proofs.Faults.{Search, search-when, search-then, search-turn, search-each}
 
@@ -48,15 +46,15 @@ module _ (m : List ℕ) where
   length-search : Search (lengthFault m) (Sized m) (λ n p s. BadLength m × (n ≡ 1) × (p ≡ 0) × (s ≡ 65535))
   unfolding lengthFault
   length-search =
-      search-when 1 0 65535 (says-or (says-lt (length m) 36) (says-not (denies-eq (length m) (total m))))
-      (denies-or (denies-lt (length m) 36) (denies-not (says-eq (length m) (total m))))
+      search-when 1 0 65535 (says-or (says-lt (length m) 36) (says-unlike (length m) (total m)))
+      (denies-or (denies-lt (length m) 36) (denies-unlike (length m) (total m)))
 
   -- 2
   chain-search : Search (chainFault m) (Chained m) (λ n p s. BadSection m p × (n ≡ 2) × (s ≡ 65535))
   unfolding chainFault chainAt endFault due
   chain-search =
-      let each = search-each 2 (λ k. k + 1) (λ k. 65535) 8 (λ k. says-not (denies-eq (start m (k + 1)) (due m (k + 1)))) (λ k. denies-not (says-eq (start m (k + 1)) (due m (k + 1)))) in
-      let all = search-then each (search-when 2 8 65535 (says-not (denies-eq (endOf m 8) (total m))) (denies-not (says-eq (endOf m 8) (total m)))) in
+      let each = search-each 2 (λ k. k + 1) (λ k. 65535) 8 (λ k. says-unlike (start m (k + 1)) _) (λ k. denies-unlike (start m (k + 1)) _) in
+      let all = search-then each (search-when 2 8 65535 (says-unlike (endOf m 8) (total m)) (denies-unlike (endOf m 8) (total m))) in
       record {
         clean = all .clean;
         fault = λ n p s.
@@ -208,7 +206,7 @@ module _ (m : List ℕ) where
   records-search : Search (recordsFault m) (Recorded m) (λ n p s. BadRecord m p s × (n ≡ 3))
   unfolding recordsFault unusedFault membersFault Raw
   records-search =
-      let unused = search-when 3 6 (choices m) (says-not (denies-eq (memberDue m (choices m)) (members m))) (denies-not (says-eq (memberDue m (choices m)) (members m))) in
+      let unused = search-when 3 6 (choices m) (says-unlike (memberDue m (choices m)) (members m)) (denies-unlike (memberDue m (choices m)) (members m)) in
       let all = search-then sections-search (search-then unused (search-turn (choices m) choice-members-search)) in
       record {
         clean = (
@@ -243,8 +241,8 @@ module _ (m : List ℕ) where
   modules-search =
       let o = modulesOf m in
       let boolean = says-and (says-lt o (symbols m)) (says-eq (typeOf m o) 0) in
-      search-when 4 o 65535 (says-and (says-not (denies-eq o 65535)) (says-not (denies-it boolean)))
-      (denies-and (denies-not (says-eq o 65535)) (denies-not boolean))
+      search-when 4 o 65535 (says-and (says-unlike o 65535) (says-not (denies-it boolean)))
+      (denies-and (denies-unlike o 65535) (denies-not boolean))
 
   -- THE WHOLE
   -- each number behind the absence of those before it

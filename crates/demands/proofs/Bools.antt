@@ -1,6 +1,6 @@
 -- A test says what it tests: each connective and comparison, as an equivalence that goes case by case. Assumes nothing.
 use Prim.Native.Nat.{ℕ, _≤_, _<_}
-use mathlib.Core.Path.{_≡_, refl, sym}
+use mathlib.Core.Path.{_≡_, refl}
 use mathlib.Core.Bool.{Bool, true, false, _&&_, _||_, not, true≢false, false≢true}
 use mathlib.Core.Logic.{_⊎_, inl, inr, _↔_, ⊎-elim, Iff·trans}
 use native.Mathlib.Omega.{arith}
@@ -76,6 +76,12 @@ module _ (a b : ℕ) where
   pub denies-eq : Denies (eqb a b) (a ≡ b → ⊥)
   denies-eq = (eqb-false a b, ne-eqb a b)
 
+  pub says-unlike : Says (not (eqb a b)) (a ≡ b → ⊥)
+  says-unlike = says-not denies-eq
+
+  pub denies-unlike : Denies (not (eqb a b)) (a ≡ b)
+  denies-unlike = denies-not says-eq
+
 -- n or above it
 pub denies-pos : (a : ℕ) → Denies (ltb 0 a) (a ≡ 0)
 denies-pos a = (λ e. omega (arith, ltb-false 0 a e), λ z. rw z)
@@ -88,3 +94,6 @@ or-assoc = (⊎-elim (⊎-elim inl (λ q. inr (inl q))) (λ r. inr (inr r)), ⊎
 
 pub or-four : {P Q R S : Type 0} → (((P ⊎ Q) ⊎ R) ⊎ S) ↔ (P ⊎ (Q ⊎ (R ⊎ S)))
 or-four = Iff·trans or-assoc or-assoc
+
+pub none-of : {P Q R : Type 0} → ¬ P → ¬ Q → ¬ R → ¬ (P ⊎ (Q ⊎ R))
+none-of p q r = ⊎-elim p (⊎-elim q r)

@@ -1,23 +1,22 @@
 -- Contents compared and put in a range: each test of the rules says what Valid says, kind by kind. Assumes nothing.
-use Prim.Native.Nat.{ℕ, _≤_, _<_}
-use mathlib.Core.Path.{_≡_, refl, sym, _∙_, ap, ap₂, subst}
-use mathlib.Core.Bool.{Bool, true, false, _&&_, _||_, not, true≢false, false≢true}
+use Prim.Native.Nat.{ℕ, _≤_}
+use mathlib.Core.Path.{_≡_, refl, ap, ap₂}
+use mathlib.Core.Bool.{Bool, true, false, false≢true}
 use mathlib.Core.Logic.{_⊎_, inl, inr, _↔_, ⊎-elim, Iff·trans}
 use mathlib.Core.List.{List, [], _∷_}
 use native.Mathlib.Omega.{arith}
 use lib.Dec.{T, eqb, leb, ltb}
 use lib.IntN.{ℤ, pos, negsuc}
-use lib.Signed.{leZ, _≤ℤ_, ≤ℤ-refl}
+use lib.Signed.{leZ, _≤ℤ_}
 use lib.ListN.{length, getD}
 use borrow.Author.Tests.{eqb-true, eqb-false, eq-eqb, leb-true, le-leb}
 use Rattle.tri.specs.Three.{triOf}
-use Rattle.meaning.specs.declared.Value.{Value}
 use Rattle.meaning.specs.declared.Value.the-variants.{Three, Text, Int, Hex}
 use Rattle.meaning.specs.Base.{pick, word, sameText}
 use Rattle.meaning.specs.Table.{Content, aThree, aText, anInt, aHex, entries, kindOf, lengthOf, startOf, signedOf, readOf, contentIn, contentOf, threeIn, valueOf}
 use Rattle.meaning.specs.Rules.{isEmpty, typeFits, sameInt, sameContent, intIs, hexIs, within}
 use Rattle.meaning.specs.Valid.{Typed, IntRange, HexRange}
-use Rattle.demands.proofs.Bools.{Says, Denies, says-and, says-or, denies-and, denies-not, says-not, says-eq, denies-eq, says-le, both}
+use Rattle.demands.proofs.Bools.{says-unlike, Says, says-and, says-or, says-eq, both}
 
 -- THE THREE VALUES: what is read as one is at most y
 read-three : (t : List ℕ) (a b c d e : Bool) (v at l w : ℕ)
@@ -99,7 +98,7 @@ not-one v le = (λ n. by (eqb v 0) refl n, ⊎-elim (λ e f. omega arith) (λ e 
     by false e n = let z = eqb-false v 0 e in inr (omega arith)
 
 pub says-typed : (y : ℕ) (c : Content) → threeIn c ≤ 2 → Says (typeFits y c) (Typed y c)
-says-typed y (aThree v) le = says-or (says-and (says-eq y 0) (Iff·trans (says-not (denies-eq v 1)) (not-one v le))) (says-eq y 1)
+says-typed y (aThree v) le = says-or (says-and (says-eq y 0) (Iff·trans (says-unlike v 1) (not-one v le))) (says-eq y 1)
 says-typed y (aText l) le = says-or (says-eq y 2) (says-and (says-or (says-eq y 3) (says-eq y 4)) (says-empty l))
 says-typed y (anInt z) le = says-eq y 3
 says-typed y (aHex h) le = says-eq y 4

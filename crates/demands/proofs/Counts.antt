@@ -1,8 +1,9 @@
--- Counting reaches one or two exactly where one or two numbers are counted, and a search ends at the least: by induction on how many were looked at. Assumes nothing.
+-- Counting reaches one or two exactly where one or two numbers are counted, and a search ends at the least: by induction on how many were
+-- looked at. Assumes nothing.
 use Prim.Native.Nat.{ℕ, zero, suc, _+_, _≤_, _<_}
 use mathlib.Core.Path.{_≡_, refl, sym, _∙_, subst}
 use mathlib.Core.Bool.{Bool, true, false, false≢true}
-use mathlib.Core.Logic.{_⊎_, inl, inr, _↔_, ⊎-elim}
+use mathlib.Core.Logic.{_⊎_, inl, inr, ⊎-elim}
 use native.Mathlib.Nat.{not-suc-le-zero, eq-or-lt-of-le, le-of-suc-le-suc}
 use native.Mathlib.Omega.{arith}
 use lib.Dec.{eqb, ltb}
@@ -15,7 +16,7 @@ module _ (p : ℕ → Bool) where
   abbrev pub Some : ℕ → Type 0
   Some n = (j : ℕ) × (j < n) × (p j ≡ true)
 
-  abbrev pub Two : ℕ → Type 0
+  abbrev Two : ℕ → Type 0
   Two n = (i : ℕ) × (j : ℕ) × (i < j) × (j < n) × (p i ≡ true) × (p j ≡ true)
 
   pub some-counted : (n : ℕ) → 1 ≤ countBelow p n → Some n

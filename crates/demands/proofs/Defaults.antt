@@ -1,6 +1,7 @@
--- Default as it is worked out is what Valid says it is, and nothing else is: taken from the last to the first, each that applies covers those after it. Assumes nothing.
+-- Default as it is worked out is what Valid says it is, and nothing else is: taken from the last to the first, each that applies covers those
+-- after it. Assumes nothing.
 use Prim.Native.Nat.{ℕ, zero, suc, _-_, _≤_, _<_}
-use mathlib.Core.Path.{_≡_, refl, sym, _∙_, subst, ap}
+use mathlib.Core.Path.{_≡_, refl, sym, _∙_, ap}
 use mathlib.Core.Bool.{Bool, true, false}
 use mathlib.Core.Logic.{_⊎_, inl, inr, ⊎-elim}
 use mathlib.Core.List.{List, []}
@@ -11,7 +12,7 @@ use borrow.Author.Tests.{eqb-true, eqb-false, ltb-true, ltb-false}
 use Rattle.meaning.specs.Base.{pick, fold}
 use Rattle.meaning.specs.Book.{defaults, defaultSymbol, defaultValue, defaultCondition}
 use Rattle.meaning.specs.Table.{aText}
-use Rattle.meaning.specs.Values.{val, leafOf, nodeValues, conditionValue, defaultStep, defaultFrom, defaultOf, defaultContent}
+use Rattle.meaning.specs.Values.{leafOf, nodeValues, conditionValue, defaultStep, defaultFrom, defaultOf, defaultContent}
 use Rattle.meaning.specs.Valid.{At, FirstDefault, NoDefault, IsDefault}
 use Rattle.demands.specs.Broken.{Least}
 use Rattle.demands.proofs.Counts.{least-unique}

@@ -1,21 +1,21 @@
 -- Each rule's test at one place fails exactly where Valid's words hold there, and a test that passes names the second place: rule by rule,
 -- from what its Lower, its Default, its counts and its comparisons say. Assumes nothing.
-use Prim.Native.Nat.{ℕ, zero, suc, _≤_, _<_, max}
-use mathlib.Core.Path.{_≡_, refl, sym, _∙_, ap, subst}
+use Prim.Native.Nat.{ℕ, _≤_, _<_, max}
+use mathlib.Core.Path.{_≡_, refl, sym, _∙_, subst}
 use mathlib.Core.Bool.{Bool, true, false, _&&_, not}
-use mathlib.Core.Logic.{_⊎_, inl, inr, _↔_, _≢_, ⊎-elim, Iff·trans}
-use mathlib.Core.List.{List, [], _∷_}
+use mathlib.Core.Logic.{_⊎_, _↔_, _≢_, Iff·trans}
+use mathlib.Core.List.{List, []}
 use native.Mathlib.Omega.{arith}
 use lib.Dec.{eqb, leb, ltb}
-use borrow.Author.Tests.{eqb-true, eqb-false, leb-true, le-leb, ltb-true, ltb-false, eq-eqb, ne-eqb, lt-ltb}
-use Rattle.meaning.specs.Base.{countBelow, firstWhere}
-use Rattle.meaning.specs.Book.{typeOf, promptOf, defaultValue, rangeSymbol, lowOf, highOf, rangeCondition, choices, choiceKind, mandatoryOf, choicePrompt, memberCount, memberOf, modulesOf, modulesDeclared}
-use Rattle.meaning.specs.Table.{Content, aText, contentOf, valueOf}
+use borrow.Author.Tests.{eqb-true, eqb-false, leb-true, le-leb, ltb-true, ltb-false, eq-eqb}
+use Rattle.meaning.specs.Base.{countBelow}
+use Rattle.meaning.specs.Book.{typeOf, rangeSymbol, lowOf, highOf, rangeCondition, choices, choiceKind, mandatoryOf, choicePrompt, memberCount, memberOf, modulesOf, modulesDeclared}
+use Rattle.meaning.specs.Table.{aText, contentOf, valueOf}
 use Rattle.meaning.specs.Values.{val, leafOf, nodeValues, lowerOf, defaultOf, defaultContent, promptValue}
-use Rattle.meaning.specs.Rules.{typeFits, broken11, broken12, broken13, broken13Content, broken14, broken15, broken16, broken17, broken18, atLeast, memberValue, someOf, ysOf, msOf, firstYes, otherOf, firstModule}
-use Rattle.meaning.specs.Valid.{At, IsLower, IsDefault, IsThree, IsOther, Member, Seen}
-use Rattle.demands.specs.Broken.{typed, lower, upper, default, range, one, kind, mandatory, modules, Least, Holds, Second, IsYes, IsOtherThan, IsModule, DefaultThree, DefaultOther}
-use Rattle.demands.proofs.Bools.{Says, Denies, says-and, denies-and, denies-then, denies-it, says-not, denies-not, says-lt, denies-lt, says-le, denies-le, says-eq, denies-eq, denies-pos, denies-zero, or-assoc, both}
+use Rattle.meaning.specs.Rules.{typeFits, broken11, broken12, broken13, broken13Content, broken14, broken15, broken16, broken17, broken18, atLeast, someOf, ysOf, msOf, firstYes, otherOf, firstModule}
+use Rattle.meaning.specs.Valid.{At, IsLower, IsThree, IsOther, Member}
+use Rattle.demands.specs.Broken.{typed, lower, upper, default, range, one, kind, mandatory, modules, Least, Holds, Second}
+use Rattle.demands.proofs.Bools.{says-unlike, denies-unlike, Says, Denies, says-and, denies-and, denies-then, denies-it, denies-not, says-lt, denies-lt, says-le, denies-le, says-eq, denies-eq, denies-pos, denies-zero, or-assoc, both}
 use Rattle.demands.proofs.Counts.{Some, some-counted, two-counted, count-some, count-two, first-least}
 use Rattle.demands.proofs.Contents.{value-three, says-content, says-typed, says-within}
 use Rattle.demands.proofs.Lower.{lower-is, lower-unique}
@@ -54,7 +54,7 @@ module _ (m t : List ℕ) where
         let v = valueOf t s in
         let d = defaultOf m vs s in
         let l = lowerOf m t vs s in
-        Iff·trans (denies-and (denies-zero p) (denies-not (says-eq v (max d l)))) (
+        Iff·trans (denies-and (denies-zero p) (denies-unlike v (max d l))) (
           (λ q. (
             (λ k e i h g. subst (λ x. (0 < p) ⊎ (v ≡ max x k)) (default-unique m t _ 0 (default-is m t) g)
                 (subst (λ x. (0 < p) ⊎ (v ≡ max d x)) (lower-unique m t (lower-is m t) h) q)),
@@ -90,11 +90,12 @@ module _ (m t : List ℕ) where
   -- 18
   pub each-modules : (s : ℕ) → Denies (modulesDeclared m && broken18 (valueOf t (modulesOf m)) (valueOf t s)) (Holds m t (modules s))
   each-modules s =
-      denies-and (denies-not (says-eq (modulesOf m) 65535))
+      denies-and (denies-unlike (modulesOf m) 65535)
       (denies-and (denies-zero (valueOf t (modulesOf m))) (denies-eq (valueOf t s) 1))
 
 -- a least number by one test is the least by what the test says
-least-says : {p : ℕ → Bool} {n : ℕ} {P : ℕ → Type 0} {i : ℕ} → ((j : ℕ) → Says (p j) (P j)) → Least (λ j. (j < n) × (p j ≡ true)) i → Least (λ j. (j < n) × P j) i
+least-says : {p : ℕ → Bool} {n : ℕ} {P : ℕ → Type 0} {i : ℕ}
+    → ((j : ℕ) → Says (p j) (P j)) → Least (λ j. (j < n) × (p j ≡ true)) i → Least (λ j. (j < n) × P j) i
 least-says {i = i} says h = ((h .0 .0, says i .0 (h .0 .1)), λ k l q. h .1 k l (q .0, says k .1 (q .1)))
 
 module _ (m t : List ℕ) (c : ℕ) where
@@ -185,7 +186,7 @@ module _ (m t : List ℕ) (c : ℕ) where
 
   -- SECOND PLACES
   says-other : (y j : ℕ) → Says (ltb 0 (v j) && not (eqb j y)) ((0 < v j) × (j ≢ y))
-  says-other y j = says-and (says-lt 0 (v j)) (says-not (denies-eq j y))
+  says-other y j = says-and (says-lt 0 (v j)) (says-unlike j y)
 
   some-other : (y : ℕ) → Beside → Some (λ j. ltb 0 (v j) && not (eqb j y)) n
   some-other y b = by (eqb (b .1) y) refl

@@ -1,6 +1,6 @@
 -- When an outcome is one certain fault: of a test, of two searches in turn, of a search through places; and which numbers an outcome can have.
 -- A search gives a fault exactly where it finds that one and all before it are clean. Assumes nothing.
-use Prim.Native.Nat.{ℕ, zero, suc, _≤_, _<_}
+use Prim.Native.Nat.{ℕ, _<_}
 use mathlib.Core.Path.{_≡_, refl, sym, _∙_, ap, subst}
 use mathlib.Core.Bool.{Bool, true, false, true≢false, false≢true}
 use mathlib.Core.Logic.{_⊎_, inl, inr, _↔_, ⊎-elim, Iff·trans, Iff·and}
@@ -26,7 +26,7 @@ module _ {n p s n′ p′ s′ : ℕ} (e : Fault n p s ≡ Fault n′ p′ s′)
 pub same-fault : {n p s n′ p′ s′ : ℕ} → n ≡ n′ → p ≡ p′ → s ≡ s′ → Fault n p s ≡ Fault n′ p′ s′
 same-fault e f g = rw (e, f, g)
 
-pub not-clean : {o : Outcome} {n p s : ℕ} → o ≡ Fault n p s → IsFault o
+not-clean : {o : Outcome} {n p s : ℕ} → o ≡ Fault n p s → IsFault o
 not-clean {n = n} {p = p} {s = s} e c = a-fault n p s (sym e ∙ c)
 
 -- ONE CERTAIN FAULT
@@ -42,7 +42,7 @@ fault-when {b = true} k q r says = (
 fault-when {b = false} k q r {n = n} {p = p} {s = s} says =
     ((λ e. absurd (a-fault n p s (sym e))), (λ h. absurd (false≢true (says .1 (h .0)))))
 
-pub fault-then : (a b : Outcome) (n p s : ℕ) → (orElse a b ≡ Fault n p s) ↔ ((a ≡ Fault n p s) ⊎ (IsClean a × (b ≡ Fault n p s)))
+fault-then : (a b : Outcome) (n p s : ℕ) → (orElse a b ≡ Fault n p s) ↔ ((a ≡ Fault n p s) ⊎ (IsClean a × (b ≡ Fault n p s)))
 unfolding orElse
 fault-then Clean b n p s = ((λ e. inr (refl, e)), ⊎-elim (λ e. absurd (a-fault n p s (sym e))) (λ h. h .1))
 fault-then (Fault i j k) b n p s = (inl, ⊎-elim (λ e. e) (λ h. absurd (a-fault i j k (h .0))))
@@ -53,7 +53,7 @@ pub record Stops (f : ℕ → Outcome) (n k p s i : ℕ) : Type 0 where
   pub is : f i ≡ Fault k p s
   pub before : (j : ℕ) → j < i → IsClean (f j)
 
-pub fault-turn : (f : ℕ → Outcome) (n k p s : ℕ) → (firstBelow f n ≡ Fault k p s) ↔ ((i : ℕ) × Stops f n k p s i)
+fault-turn : (f : ℕ → Outcome) (n k p s : ℕ) → (firstBelow f n ≡ Fault k p s) ↔ ((i : ℕ) × Stops f n k p s i)
 fault-turn f n k p s = (
   (λ e.
       let x = fault-first f n (not-clean e) in
@@ -135,10 +135,6 @@ module _ {P : ℕ → Type 0} where
   pub numbers-then : (a b : Outcome) → Numbers P a → Numbers P b → Numbers P (orElse a b)
   numbers-then a b h k =
       record { has = λ n p s e. ⊎-elim (h .has n p s) (λ x. k .has n p s (x .1)) (fault-then a b n p s .0 e) }
-
-  pub numbers-turn : (f : ℕ → Outcome) (n : ℕ) → ((i : ℕ) → Numbers P (f i)) → Numbers P (firstBelow f n)
-  numbers-turn f n h =
-      record { has = λ k p s e. let x = fault-turn f n k p s .0 e in h (x .0) .has k p s (x .1 .is) }
 
   -- a number that the first, or the second, of two searches cannot have
   pub fault-behind : (a b : Outcome) (n p s : ℕ) → Numbers P a → ¬ P n → (orElse a b ≡ Fault n p s) ↔ (IsClean a × (b ≡ Fault n p s))

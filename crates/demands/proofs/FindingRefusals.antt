@@ -2,24 +2,23 @@
 -- gives a number only by the part that has it. Assumes nothing.
 use Prim.Native.Nat.{ℕ, _≤_, _<_}
 use mathlib.Core.Path.{_≡_, refl}
-use mathlib.Core.Bool.{Bool, true, false, not}
-use mathlib.Core.Logic.{_⊎_, inl, inr, _↔_, ⊎-elim, Iff·rfl, Iff·trans, Iff·and}
+use mathlib.Core.Bool.{not}
+use mathlib.Core.Logic.{_↔_, Iff·rfl, Iff·trans, Iff·and}
 use mathlib.Core.List.{List}
 use native.Mathlib.Omega.{arith}
-use lib.Dec.{eqb}
 use borrow.Author.Tests.{eq-eqb, ne-eqb}
 use Rattle.meaning.specs.declared.Outcome.{Outcome}
 use Rattle.meaning.specs.declared.Outcome.the-variants.{Clean, Fault}
-use Rattle.meaning.specs.Base.{when, orElse}
+use Rattle.meaning.specs.Base.{orElse}
 use Rattle.meaning.specs.Book.{symbols, nodes, bookFault, WellFormed}
 use Rattle.meaning.specs.Table.{tableFault, Readable}
-use Rattle.meaning.specs.Rules.{ruleFault, unmet, nodeRoomFault}
+use Rattle.meaning.specs.Rules.{nodeRoomFault}
 use Rattle.meaning.specs.Valid.{Valid, Unmet}
 use Rattle.meaning.specs.Findings.{selectOf, findingKind, headFault, witnessTable, witnessFault, clearanceFault, symbolRoomFault, findingRefusal, bodyFault, findingOutcome}
 use Rattle.meaning.proofs.First.{IsClean, orElse-iff}
 use Rattle.demands.specs.Broken.{FirstBroken}
 use Rattle.demands.specs.Refused.{BadHead, GoodHead, Admitted, Between}
-use Rattle.demands.proofs.Bools.{says-not, denies-it, says-eq, denies-zero}
+use Rattle.demands.proofs.Bools.{none-of, says-not, denies-it, says-eq, denies-zero}
 use Rattle.demands.proofs.Faults.{fault-when, fault-ahead, fault-behind, fault-pick, fault-unpicked}
 use Rattle.demands.proofs.Readable.{readable-iff}
 use Rattle.demands.proofs.ValidIff.{valid-iff}
@@ -53,7 +52,7 @@ module _ (m f : List ℕ) (nodeRoom symbolRoom : ℕ) where
     unfolding findingRefusal
     finding-refused-1-to-4 l =
         Iff·trans
-        (to-finding-refusal (⊎-elim (λ x. omega (arith, x .0)) (⊎-elim (λ x. omega (arith, x .0)) (λ x. omega (arith, x .0)))))
+        (to-finding-refusal (none-of (λ x. omega (arith, x .0)) (λ x. omega (arith, x .0)) (λ x. omega (arith, x .0))))
         (fault-ahead _ _ n p s (behind-head-numbers m f nodeRoom symbolRoom) (λ x. omega (arith, x .0)))
 
     behind-book-of : ¬ OfBody n → 4 < n
@@ -71,14 +70,14 @@ module _ (m f : List ℕ) (nodeRoom symbolRoom : ℕ) where
         (Iff·trans (fault-behind _ _ n p s (head-numbers m f) (λ x. omega (arith, x .0))) (Iff·and (head-search m f .clean) Iff·rfl)))
 
   no-body : (n : ℕ) → 6 < n → n < 10 → ¬ OfBody n
-  no-body n l k = ⊎-elim (λ x. omega (arith, x .1)) (⊎-elim (λ x. omega (arith, x .0)) (λ x. omega (arith, x .0)))
+  no-body n l k = none-of (λ x. omega (arith, x .1)) (λ x. omega (arith, x .0)) (λ x. omega (arith, x .0))
 
   module _ (p s : ℕ) where
     pub finding-refused-21 :
         (findingOutcome m f nodeRoom symbolRoom ≡ Fault 21 p s) ↔ (WellFormed m × BadHead m f × (p ≡ 0) × (s ≡ 65535))
     finding-refused-21 =
         Iff·trans
-        (behind-book-of 21 p s (⊎-elim (λ x. omega (arith, x .1)) (⊎-elim (λ x. omega (arith, x .1)) (λ x. omega (arith, x .0)))) (omega arith))
+        (behind-book-of 21 p s (none-of (λ x. omega (arith, x .1)) (λ x. omega (arith, x .1)) (λ x. omega (arith, x .0))) (omega arith))
         (Iff·trans
         (Iff·and Iff·rfl (Iff·trans (fault-ahead _ _ 21 p s (room-numbers m nodeRoom symbolRoom) (λ x. omega (arith, x .1))) (head-search m f .fault 21 p s)))
         ((λ x. (x .0, x .1 .0, x .1 .2, x .1 .3)), (λ x. (x .0, (x .1, refl, x .2, x .3)))))
@@ -127,7 +126,7 @@ module _ (m f : List ℕ) (nodeRoom symbolRoom : ℕ) where
     unfolding witnessFault
     witness-refused-5-6 l k =
         Iff·trans
-        (to-witness (⊎-elim (λ x. omega (arith, x .1)) (⊎-elim (λ x. omega (arith, x .0)) (λ x. omega (arith, x .0)))) (λ x. omega (arith, x .0)))
+        (to-witness (none-of (λ x. omega (arith, x .1)) (λ x. omega (arith, x .0)) (λ x. omega (arith, x .0))) (λ x. omega (arith, x .0)))
         (Iff·and Iff·rfl (Iff·and Iff·rfl (fault-ahead _ _ n p s (behind-table-numbers m f) (λ x. omega (arith, x .0)))))
 
     pub witness-broken : 10 ≤ n → n ≤ 18
@@ -137,7 +136,7 @@ module _ (m f : List ℕ) (nodeRoom symbolRoom : ℕ) where
     unfolding witnessFault
     witness-broken l k =
         Iff·trans
-        (to-witness (⊎-elim (λ x. omega (arith, x .1)) (⊎-elim (λ x. omega (arith, x .1)) (λ x. omega (arith, x .0)))) (λ x. omega (arith, x .0)))
+        (to-witness (none-of (λ x. omega (arith, x .1)) (λ x. omega (arith, x .1)) (λ x. omega (arith, x .0))) (λ x. omega (arith, x .0)))
         (Iff·and Iff·rfl
         (Iff·and Iff·rfl
         (Iff·trans (fault-behind _ _ n p s (entry-numbers (witnessTable f) (symbols m)) (λ x. omega (arith, x .1)))
@@ -153,7 +152,7 @@ module _ (m f : List ℕ) (nodeRoom symbolRoom : ℕ) where
       let t = witnessTable f in
       let i =
       Iff·trans
-      (to-witness 24 p s (⊎-elim (λ x. omega (arith, x .1)) (⊎-elim (λ x. omega (arith, x .1)) (λ x. omega (arith, x .1)))) (λ x. omega (arith, x .1)))
+      (to-witness 24 p s (none-of (λ x. omega (arith, x .1)) (λ x. omega (arith, x .1)) (λ x. omega (arith, x .1))) (λ x. omega (arith, x .1)))
       (Iff·and Iff·rfl
       (Iff·and Iff·rfl
       (Iff·trans (fault-behind _ _ 24 p s (entry-numbers t (symbols m)) (λ x. omega (arith, x .1)))
@@ -186,10 +185,12 @@ module _ (m f : List ℕ) (nodeRoom symbolRoom : ℕ) where
   unfolding findingOutcome bodyFault
   clearance-refused n p s l k =
       Iff·trans
-      (fault-behind _ _ n p s (finding-refusal-numbers m f nodeRoom symbolRoom) (⊎-elim (λ x. omega (arith, x .1)) (⊎-elim (λ x. omega (arith, x .1)) (λ x. omega (arith, x .1)))))
+      (fault-behind _ _ n p s (finding-refusal-numbers m f nodeRoom symbolRoom)
+      (none-of (λ x. omega (arith, x .1)) (λ x. omega (arith, x .1)) (λ x. omega (arith, x .1))))
       (Iff·trans
       (Iff·and admitted-iff
-      (fault-unpicked _ _ n p s (denies-zero (findingKind f)) (witness-numbers m f) (⊎-elim (λ x. omega (arith, x .1)) (⊎-elim (λ x. omega (arith, x .1)) (λ x. omega (arith, x .0))))))
+      (fault-unpicked _ _ n p s (denies-zero (findingKind f)) (witness-numbers m f)
+      (none-of (λ x. omega (arith, x .1)) (λ x. omega (arith, x .1)) (λ x. omega (arith, x .0)))))
       ((λ x. (x .0, omega (arith, x .0 .1 .0 .3, x .1 .0), x .1 .1)), (λ x. (x .0, (omega (arith, x .1), x .2)))))
 
   pub clearance-accepted : findingKind f ≡ 1

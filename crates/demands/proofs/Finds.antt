@@ -1,9 +1,9 @@
 -- What a search in order finds, of the rules and places it goes through: all kept where it is clean, else the first that is broken. It holds for
 -- a search of two parts, and so for any. Assumes nothing.
-use Prim.Native.Nat.{ℕ, zero, suc, _≤_, _<_}
-use mathlib.Core.Path.{_≡_, refl, sym, _∙_, ap, subst}
+use Prim.Native.Nat.{ℕ, zero, suc, _<_}
+use mathlib.Core.Path.{_≡_, refl, sym, _∙_, subst}
 use mathlib.Core.Bool.{Bool, true, false, true≢false}
-use mathlib.Core.Logic.{_⊎_, inl, inr, _↔_, ⊎-elim}
+use mathlib.Core.Logic.{inl, inr, _↔_, ⊎-elim}
 use mathlib.Core.List.{List, [], _∷_, _++_}
 use native.Mathlib.Nat.{not-suc-le-zero, eq-or-lt-of-le, le-of-suc-le-suc}
 use native.Mathlib.Omega.{arith}
@@ -32,12 +32,12 @@ module _ (P : Spot → Type 0) where
         (λ h. j .1 (k .1 (λ i lt. h i (omega arith)), h n (omega arith))),
       )
 
-  pub first-front : (a b : List Spot) (x : Spot) → FirstNot P a x → FirstNot P (a ++ b) x
+  first-front : (a b : List Spot) (x : Spot) → FirstNot P a x → FirstNot P (a ++ b) x
   first-front [] b x h = absurd h
   first-front (y ∷ a) b x (inl h) = inl h
   first-front (y ∷ a) b x (inr h) = inr (h .0, first-front a b x (h .1))
 
-  pub first-behind : (a b : List Spot) (x : Spot) → All P a → FirstNot P b x → FirstNot P (a ++ b) x
+  first-behind : (a b : List Spot) (x : Spot) → All P a → FirstNot P b x → FirstNot P (a ++ b) x
   first-behind [] b x all h = h
   first-behind (y ∷ a) b x all h = inr (all .0, first-behind a b x (all .1) h)
 
@@ -55,7 +55,7 @@ module _ (P : Spot → Type 0) where
   first-unique (z ∷ a) x y (inr h) (inr k) = first-unique a x y (h .1) (k .1)
 
 module _ (m t : List ℕ) where
-  abbrev pub Found : List Spot → ℕ → ℕ → ℕ → Type 0
+  abbrev Found : List Spot → ℕ → ℕ → ℕ → Type 0
   Found l n p s = (x : Spot) × FirstNot (Holds m t) l x × (ruleOf x ≡ n) × (placeOf x ≡ p) × Second m t x s
 
   pub record Finds (l : List Spot) (o : Outcome) : Type 0 where

@@ -1,6 +1,7 @@
--- Lower as it is worked out is what Valid says it is, and nothing else is: a fold that takes the larger bounds what it took, and reaches it. Assumes nothing.
-use Prim.Native.Nat.{ℕ, zero, suc, _≤_, _<_, max}
-use mathlib.Core.Path.{_≡_, refl, sym, _∙_, subst}
+-- Lower as it is worked out is what Valid says it is, and nothing else is: a fold that takes the larger bounds what it took, and reaches it.
+-- Assumes nothing.
+use Prim.Native.Nat.{ℕ, zero, suc, _≤_, _<_}
+use mathlib.Core.Path.{_≡_, refl, subst}
 use mathlib.Core.Bool.{Bool, true, false}
 use mathlib.Core.Logic.{_⊎_, inl, inr, ⊎-elim}
 use mathlib.Core.List.{List}

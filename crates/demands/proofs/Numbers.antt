@@ -1,14 +1,14 @@
 -- Which numbers each part of the checks can answer, and so the checks themselves: each search has the numbers of its parts. Assumes nothing.
-use Prim.Native.Nat.{ℕ, _≤_, _<_}
-use mathlib.Core.Path.{_≡_, refl, subst}
-use mathlib.Core.Bool.{Bool, true, false, not}
+use Prim.Native.Nat.{ℕ}
+use mathlib.Core.Path.{subst}
+use mathlib.Core.Bool.{true, not}
 use mathlib.Core.Logic.{_⊎_, inl, inr, ⊎-elim}
 use mathlib.Core.List.{List}
 use native.Mathlib.Omega.{arith}
-use lib.Dec.{eqb, ltb}
+use lib.Dec.{eqb}
 use lib.ListN.{length}
 use Rattle.meaning.specs.declared.Outcome.{Outcome}
-use Rattle.meaning.specs.declared.Outcome.the-variants.{Clean, Fault}
+use Rattle.meaning.specs.declared.Outcome.the-variants.{Fault}
 use Rattle.meaning.specs.declared.Walked.{Walked}
 use Rattle.meaning.specs.declared.Walked.the-variants.{Next, Malformed, Open}
 use Rattle.meaning.specs.Base.{when, orElse, answerOf}
@@ -88,7 +88,7 @@ table-numbers m t room =
 abbrev pub OfRefusal : ℕ → Type 0
 OfRefusal n = Between 1 4 n ⊎ (Between 7 8 n ⊎ Between 21 21 n)
 
-abbrev pub OfWitness : ℕ → Type 0
+abbrev OfWitness : ℕ → Type 0
 OfWitness n = Between 5 6 n ⊎ (Between 10 18 n ⊎ Between 24 24 n)
 
 abbrev pub OfBody : ℕ → Type 0

@@ -1,31 +1,32 @@
 -- The table's search, part by part: clean exactly where the table is readable, else the fault that document 01 names. Entries that are well-formed
 -- end within the table, so bodies that do not end at the total end before it. Assumes nothing.
-use Prim.Native.Nat.{ℕ, zero, suc, _+_, _*_, _≤_, _<_}
-use mathlib.Core.Path.{_≡_, refl, sym, _∙_, ap}
-use mathlib.Core.Bool.{Bool, true, false, _&&_, _||_, not}
-use mathlib.Core.Logic.{_⊎_, inl, inr, _↔_, _≢_, ⊎-elim, Iff·rfl, Iff·trans}
+use Prim.Native.Nat.{ℕ, zero, suc, _+_, _*_, _≤_}
+use mathlib.Core.Path.{_≡_, refl}
+use mathlib.Core.Bool.{_&&_}
+use mathlib.Core.Logic.{_⊎_, inl, inr, _↔_, ⊎-elim, Iff·rfl, Iff·trans}
 use mathlib.Core.List.{List}
 use native.Mathlib.Omega.{arith}
-use lib.Dec.{eqb, leb, ltb}
-use lib.ListN.{length, getD}
+use lib.Dec.{eqb, leb}
+use lib.ListN.{length}
 use borrow.Author.Tests.{leb-true}
-use Rattle.meaning.specs.declared.Outcome.{Outcome}
 use Rattle.meaning.specs.declared.Outcome.the-variants.{Clean, Fault}
-use Rattle.meaning.specs.Base.{half, when, orElse, firstBelow}
-use Rattle.meaning.specs.Table.{entries, kindOf, lengthOf, startOf, bodyDue, lengthFits, byteFits, entryOk, contentsFault, entryAt, bodiesFault, tableFault, Readable}
+use Rattle.meaning.specs.Base.{half, firstBelow}
+use Rattle.meaning.specs.Table.{entries, kindOf, lengthOf, startOf, bodyDue, lengthFits, entryOk, contentsFault, entryAt, bodiesFault, tableFault, Readable}
 use Rattle.demands.specs.Broken.{Least}
 use Rattle.demands.specs.Refused.{BadContents, GoodContents, BadEntry, GoodEntries, BytesLeft}
-use Rattle.demands.proofs.Bools.{Says, Denies, says-or, says-not, denies-or, denies-not, says-lt, denies-lt, says-eq, denies-eq, or-four, both}
+use Rattle.demands.proofs.Bools.{says-unlike, denies-unlike, says-or, says-not, denies-or, denies-not, says-lt, denies-lt, or-four, both}
 use Rattle.demands.proofs.Faults.{Search, search-when, search-then, search-each}
 
 module _ (t : List ℕ) (n : ℕ) where
   contents-search : Search (contentsFault t n) (GoodContents t n) (λ k p s. BadContents t n × (k ≡ 5) × (p ≡ 0) × (s ≡ 65535))
   unfolding contentsFault
   contents-search =
+      let l = length t in
+      let due = 4 + 4 * n in
       search-when 5 0 65535
-      (Iff·trans (says-or (says-or (says-or (says-lt (length t) 4) (says-not (denies-eq (half t 0) (length t)))) (says-not (denies-eq (entries t) n))) (says-lt (length t) (4 + 4 * n))) or-four)
+      (Iff·trans (says-or (says-or (says-or (says-lt l 4) (says-unlike (half t 0) l)) (says-unlike (entries t) n)) (says-lt l due)) or-four)
       (Iff·trans
-      (denies-or (denies-or (denies-or (denies-lt (length t) 4) (denies-not (says-eq (half t 0) (length t)))) (denies-not (says-eq (entries t) n))) (denies-lt (length t) (4 + 4 * n)))
+      (denies-or (denies-or (denies-or (denies-lt l 4) (denies-unlike (half t 0) l)) (denies-unlike (entries t) n)) (denies-lt l due))
       (λ h. (h .1, h .0 .0 .1, h .0 .1), λ h. (((omega (arith, h .0), h .1), h .2), h .0)))
 
   entries-search : Search (firstBelow (entryAt t n) n) (GoodEntries t n) (λ k p s. Least (BadEntry t n) p × (k ≡ 6) × (s ≡ 65535))
@@ -59,7 +60,7 @@ module _ (t : List ℕ) (n : ℕ) where
   pub table-search : Search (tableFault t n) (Readable t n) BadTable
   unfolding tableFault bodiesFault
   table-search =
-      let bodies = search-when 5 0 65535 (says-not (denies-eq (bodyDue t n n) (length t))) (denies-not (says-eq (bodyDue t n n) (length t))) in
+      let bodies = search-when 5 0 65535 (says-unlike (bodyDue t n n) (length t)) (denies-unlike (bodyDue t n n) (length t)) in
       let all = search-then contents-search (search-then entries-search bodies) in
       record {
         clean = (

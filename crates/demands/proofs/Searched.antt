@@ -5,7 +5,7 @@ use mathlib.Core.Bool.{Bool, true, false}
 use mathlib.Core.List.{List, [], _∷_}
 use native.Mathlib.Omega.{arith}
 use borrow.Author.Tests.{leb-true, leb-false}
-use Rattle.meaning.specs.Base.{pick, firstBelow}
+use Rattle.meaning.specs.Base.{pick}
 use Rattle.meaning.specs.Book.{symbols, ranges, choices, typeOf, threeType}
 use Rattle.meaning.specs.Values.{nodeValues}
 use Rattle.meaning.specs.Rules.{threeTests, test10, threeFault, otherFault, test14, symbolFault, test15, test16, test17, choiceFault, test18, rulesFault, ruleFault}

@@ -1,16 +1,16 @@
 -- No rule is broken exactly in a valid table: the search is clean where every rule holds at every listed place, and Valid says the same of all
 -- places at once. A range that the book's check passed is on a symbol, so its symbol is listed. Assumes nothing.
 use Prim.Native.Nat.{ℕ, _<_}
-use mathlib.Core.Path.{_≡_, refl, subst}
+use mathlib.Core.Path.{_≡_, refl}
 use mathlib.Core.Bool.{Bool, true, false, _&&_, _||_}
 use mathlib.Core.Logic.{_⊎_, inl, inr, _↔_, _≢_, ⊎-elim, Iff·trans, Iff·symm}
-use mathlib.Core.List.{List, [], _∷_, _++_}
+use mathlib.Core.List.{List, [], _∷_}
 use native.Mathlib.Omega.{arith}
-use lib.Dec.{eqb, leb, ltb}
+use lib.Dec.{eqb, ltb}
 use borrow.Author.Tests.{eqb-true, eqb-false, ltb-true, ltb-false}
 use Rattle.meaning.specs.declared.Outcome.{Outcome}
 use Rattle.meaning.specs.declared.Outcome.the-variants.{Clean, Fault}
-use Rattle.meaning.specs.Book.{symbols, nodes, ranges, choices, typeOf, rangeSymbol, lowOf, highOf, rangeCondition, modulesOf, boundOk, rangeOk, WellFormed}
+use Rattle.meaning.specs.Book.{symbols, ranges, choices, typeOf, rangeSymbol, lowOf, highOf, modulesOf, boundOk, rangeOk, WellFormed}
 use Rattle.meaning.specs.Table.{valueOf}
 use Rattle.meaning.specs.Rules.{ruleFault}
 use Rattle.meaning.specs.Valid.{Valid}
@@ -70,7 +70,9 @@ module _ (P : Spot → Type 0) (m : List ℕ) where
         (λ h. four .1 (
           types .1 (λ s l. (h .types s l, tt)),
           three .1 (
-            own .1 (λ s l. (h .lowers s l, (h .uppers s l, (h .defaults s l, all-turn P (λ r. range s r ∷ []) (ranges m) .1 (λ r k. (h .ranged s r l k, tt)))))),
+            own .1 (λ s l.
+                let by = all-turn P (λ r. range s r ∷ []) (ranges m) .1 (λ r k. (h .ranged s r l k, tt)) in
+                (h .lowers s l, (h .uppers s l, (h .defaults s l, by)))),
             two .1 (
               chosen .1 (λ c l. (h .ones c l, (h .kinds c l, (h .mandatories c l, tt)))),
               last .1 (λ s l. (h .moduled s l, tt)),

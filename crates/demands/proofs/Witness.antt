@@ -1,23 +1,17 @@
--- A witness is accepted exactly where its table is readable and valid and leaves its select unmet: its three tests in turn, each by what it says. Assumes nothing.
-use Prim.Native.Nat.{ℕ, zero, suc, _+_, _*_, _≤_, _<_}
-use mathlib.Core.Path.{_≡_, refl, sym, _∙_, ap}
-use mathlib.Core.Bool.{Bool, true, false, _&&_, _||_, not}
-use mathlib.Core.Logic.{_⊎_, inl, inr, _↔_, ⊎-elim, Iff·rfl}
+-- A witness is accepted exactly where its table is readable and valid and leaves its select unmet: its three tests in turn, each by what it
+-- says. Assumes nothing.
+use Prim.Native.Nat.{ℕ}
+use mathlib.Core.Path.{_≡_}
+use mathlib.Core.Logic.{_↔_}
 use mathlib.Core.List.{List}
-use native.Mathlib.Omega.{arith}
-use lib.Dec.{eqb, leb, ltb}
-use lib.ListN.{length}
-use Rattle.meaning.specs.declared.Outcome.{Outcome}
-use Rattle.meaning.specs.declared.Outcome.the-variants.{Clean, Fault}
-use Rattle.meaning.specs.Base.{half, when, orElse, firstBelow}
-use Rattle.meaning.specs.Book.{symbols, dependOf, targetOf, selectorOf, conditionOf, WellFormed}
-use Rattle.meaning.specs.Table.{entries, bodyDue, entryOk, contentsFault, entryAt, bodiesFault, tableFault, Readable, valueOf}
-use Rattle.meaning.specs.Values.{nodeValues}
-use Rattle.meaning.specs.Rules.{ruleFault, unmetIn, unmet}
+use Rattle.meaning.specs.declared.Outcome.the-variants.{Clean}
+use Rattle.meaning.specs.Book.{symbols, dependOf, targetOf, WellFormed}
+use Rattle.meaning.specs.Table.{Readable}
+use Rattle.meaning.specs.Rules.{unmetIn, unmet}
 use Rattle.meaning.specs.Valid.{Valid, At, Gives, Unmet}
 use Rattle.meaning.specs.Findings.{selectOf, witnessTable, witnessFault}
-use Rattle.meaning.proofs.First.{IsClean, orElse-iff, clean-iff}
-use Rattle.demands.proofs.Bools.{Says, Denies, denies-or, denies-not, denies-lt, says-lt, says-eq}
+use Rattle.meaning.proofs.First.{orElse-iff}
+use Rattle.demands.proofs.Bools.{Says, denies-not, says-lt}
 use Rattle.demands.proofs.Faults.{clean-when}
 use Rattle.demands.proofs.Readable.{readable-iff}
 use Rattle.demands.proofs.ValidIff.{valid-iff}
