@@ -12,7 +12,7 @@ use Rattle.meaning.specs.declared.Outcome.the-variants.{Clean, Fault}
 use Rattle.meaning.specs.Base.{orElse}
 use Rattle.meaning.specs.Book.{symbols, nodes, bookFault, WellFormed}
 use Rattle.meaning.specs.Table.{tableFault, Readable}
-use Rattle.meaning.specs.Rules.{nodeRoomFault}
+use Rattle.meaning.specs.Rules.{ruleFault, nodeRoomFault}
 use Rattle.meaning.specs.Valid.{Valid, Unmet}
 use Rattle.meaning.specs.Findings.{selectOf, findingKind, headFault, witnessTable, witnessFault, clearanceFault, symbolRoomFault, findingRefusal, bodyFault, findingOutcome}
 use Rattle.meaning.proofs.First.{IsClean, orElse-iff}
@@ -143,29 +143,34 @@ module _ (m f : List ℕ) (nodeRoom symbolRoom : ℕ) where
         (Iff·and (readable-iff (witnessTable f) (symbols m))
         (Iff·trans (fault-ahead _ _ n p s (met-numbers m f) (λ x. omega (arith, x .0))) (first-broken m (witnessTable f) n p s))))))
 
+  -- 24 is the last of the witness's three tests
+  met-iff : (n p s : ℕ) → 18 < n
+      → (witnessFault m f ≡ Fault n p s)
+      ↔ (Readable (witnessTable f) (symbols m)
+      × ((ruleFault m (witnessTable f) ≡ Clean)
+      × ((¬ Unmet m (witnessTable f) (selectOf f)) × (n ≡ 24) × (p ≡ selectOf f) × (s ≡ 65535))))
+  unfolding witnessFault
+  met-iff n p s l =
+      let t = witnessTable f in
+      Iff·trans (fault-behind _ _ n p s (entry-numbers t (symbols m)) (λ x. omega (arith, x .1)))
+      (Iff·and (readable-iff t (symbols m))
+      (Iff·trans (fault-behind _ _ n p s (rule-numbers m t) (λ x. omega (arith, x .1)))
+      (Iff·and Iff·rfl (fault-when 24 (selectOf f) 65535 (says-not (denies-it (says-unmet m t (selectOf f))))))))
+
   pub witness-refused-24 : (p s : ℕ)
       → (findingOutcome m f nodeRoom symbolRoom ≡ Fault 24 p s)
       ↔ (Admitted m f nodeRoom symbolRoom × (findingKind f ≡ 0) × Readable (witnessTable f) (symbols m) × Valid m (witnessTable f)
       × (¬ Unmet m (witnessTable f) (selectOf f)) × (p ≡ selectOf f) × (s ≡ 65535))
-  unfolding witnessFault
   witness-refused-24 p s =
-      let t = witnessTable f in
-      let i =
+      let valid = valid-iff m (witnessTable f) in
       Iff·trans
       (to-witness 24 p s (none-of (λ x. omega (arith, x .1)) (λ x. omega (arith, x .1)) (λ x. omega (arith, x .1))) (λ x. omega (arith, x .1)))
-      (Iff·and Iff·rfl
-      (Iff·and Iff·rfl
-      (Iff·trans (fault-behind _ _ 24 p s (entry-numbers t (symbols m)) (λ x. omega (arith, x .1)))
-      (Iff·and (readable-iff t (symbols m))
-      (Iff·trans (fault-behind _ _ 24 p s (rule-numbers m t) (λ x. omega (arith, x .1)))
-      (Iff·and Iff·rfl (fault-when 24 (selectOf f) 65535 (says-not (denies-it (says-unmet m t (selectOf f)))))))))))
-      in (
-        (λ e.
-            let x = i .0 e in
-            let y = x .1 .1 .1 in
-            (x .0, x .1 .0, x .1 .1 .0, valid-iff m t (x .0 .0) .0 (y .0), y .1 .0, y .1 .2, y .1 .3)),
-        (λ h. i .1 (h .0, (h .1, (h .2, (valid-iff m t (h .0 .0) .1 (h .3), (h .4, refl, h .5, h .6)))))),
-      )
+      (Iff·trans (Iff·and Iff·rfl (Iff·and Iff·rfl (met-iff 24 p s (omega arith)))) (
+        (λ x.
+            let y = x .1 .1 in
+            (x .0, x .1 .0, y .0, valid (x .0 .0) .0 (y .1 .0), y .1 .1 .0, y .1 .1 .2, y .1 .1 .3)),
+        (λ h. (h .0, (h .1, (h .2, (valid (h .0 .0) .1 (h .3), (h .4, refl, h .5, h .6)))))),
+      ))
 
   pub witness-accepted : findingKind f ≡ 0
       → (findingOutcome m f nodeRoom symbolRoom ≡ Clean)
