@@ -1,11 +1,12 @@
--- A test says what it tests: each connective and comparison, as an equivalence that goes case by case. Assumes nothing.
+-- A test says what it tests: each connective and comparison, as an equivalence that goes case by case, and what it picks. Assumes nothing.
 use Prim.Native.Nat.{ℕ, _≤_, _<_}
-use mathlib.Core.Path.{_≡_, refl}
+use mathlib.Core.Path.{_≡_, refl, sym, _∙_}
 use mathlib.Core.Bool.{Bool, true, false, _&&_, _||_, not, true≢false, false≢true}
 use mathlib.Core.Logic.{_⊎_, inl, inr, _↔_, ⊎-elim, Iff·trans}
 use native.Mathlib.Omega.{arith}
 use lib.Dec.{eqb, leb, ltb}
 use borrow.Author.Tests.{ltb-true, ltb-false, leb-true, leb-false, eqb-true, eqb-false, lt-ltb, le-ltb, le-leb, lt-leb, eq-eqb, ne-eqb, not-true, not-false}
+use Rattle.meaning.specs.Base.{pick}
 
 -- P is what a true test says; what a false one says
 abbrev pub Says : Bool → Type 0 → Type 0
@@ -17,6 +18,27 @@ Denies b P = (b ≡ false) ↔ P
 pub both : (a : Bool) {b : Bool} → a && b ≡ true → (a ≡ true) × (b ≡ true)
 both true e = (refl, e)
 both false e = absurd (false≢true e)
+
+pub or-cases : (a b : Bool) → (a || b) ≡ true → (a ≡ true) ⊎ (b ≡ true)
+or-cases true b h = inl refl
+or-cases false b h = inr h
+
+pub not-both : {A : Type 0} {b : Bool} → b ≡ false → b ≡ true → A
+not-both f t = absurd (false≢true (sym f ∙ t))
+
+-- what is picked by a test
+pub pick-cases : {A : Type 0} (P : A → Type 0) (c : Bool) {a b : A} → (c ≡ true → P a) → (c ≡ false → P b) → P (pick c a b)
+pick-cases P true f g = f refl
+pick-cases P false f g = g refl
+
+pub pick-both : {A : Type 0} (P : A → Type 0) (c : Bool) {a b : A} → P a → P b → P (pick c a b)
+pick-both P c p q = pick-cases P c (λ _. p) (λ _. q)
+
+-- a set and a value, or whatever two, picked by one test
+pub pick-rel : {A B : Type 0} (P : A → B → Type 0) (c : Bool) {s s′ : A} {v v′ : B} → (c ≡ true → P s v) → (c ≡ false → P s′ v′)
+    → P (pick c s s′) (pick c v v′)
+pick-rel P true p q = p refl
+pick-rel P false p q = q refl
 
 module _ {P Q : Type 0} where
   pub says-and : {a b : Bool} → Says a P → Says b Q → Says (a && b) (P × Q)

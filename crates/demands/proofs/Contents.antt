@@ -8,32 +8,29 @@ use native.Mathlib.Omega.{arith}
 use lib.Dec.{T, eqb, leb, ltb}
 use lib.IntN.{ℤ, pos, negsuc}
 use lib.Signed.{leZ, _≤ℤ_}
-use lib.ListN.{length, getD}
+use lib.ListN.{length}
 use borrow.Author.Tests.{eqb-true, eqb-false, eq-eqb, leb-true, le-leb}
-use Rattle.tri.specs.Three.{triOf}
-use Rattle.meaning.specs.declared.Value.the-variants.{Three, Text, Int, Hex}
-use Rattle.meaning.specs.Base.{pick, word, sameText}
-use Rattle.meaning.specs.Table.{Content, aThree, aText, anInt, aHex, entries, kindOf, lengthOf, startOf, signedOf, readOf, contentIn, contentOf, threeIn, valueOf}
+use Rattle.meaning.specs.declared.Value.{Value}
+use Rattle.meaning.specs.Base.{sameText}
+use Rattle.meaning.specs.Table.{Content, aThree, aText, anInt, aHex, entries, kindOf, readOf, contentIn, contentOf, threeIn, valueOf}
 use Rattle.meaning.specs.Rules.{isEmpty, typeFits, sameInt, sameContent, intIs, hexIs, within}
 use Rattle.meaning.specs.Valid.{Typed, IntRange, HexRange}
-use Rattle.demands.proofs.Bools.{says-unlike, Says, says-and, says-or, says-eq, both}
+use Rattle.demands.proofs.Bools.{pick-both, says-unlike, Says, says-and, says-or, says-eq, both}
 
 -- THE THREE VALUES: what is read as one is at most y
-read-three : (t : List ℕ) (a b c d e : Bool) (v at l w : ℕ)
-    → threeIn (contentIn t (pick a (pick b (Three (triOf v)) (pick c (Text at l) (pick d (Int (signedOf w)) (pick e (Hex w) (Three 0))))) (Three 0))) ≤ 2
-read-three t false b c d e v at l w = omega arith
-read-three t true true c d e v at l w = omega arith
-read-three t true false true d e v at l w = omega arith
-read-three t true false false true e v at l w = omega arith
-read-three t true false false false true v at l w = omega arith
-read-three t true false false false false v at l w = omega arith
-
 pub value-three : (t : List ℕ) (s : ℕ) → valueOf t s ≤ 2
 unfolding valueOf contentOf readOf
 value-three t s =
     let k = kindOf t s in
-    let at = startOf t s in
-    read-three t (ltb s (entries t)) (eqb k 0) (eqb k 1) (eqb k 2) (eqb k 3) (getD t at 0) at (lengthOf t s) (word t at)
+    pick-both P (ltb s (entries t))
+    (pick-both P (eqb k 0) (omega arith)
+    (pick-both P (eqb k 1) (omega arith)
+    (pick-both P (eqb k 2) (omega arith)
+    (pick-both P (eqb k 3) (omega arith) (omega arith)))))
+    (omega arith)
+  where
+    P : Value → Type 0
+    P x = threeIn (contentIn t x) ≤ 2
 
 -- EQUAL
 text-same : (a : List ℕ) → sameText a a ≡ true

@@ -1,5 +1,5 @@
--- Counting reaches one or two exactly where one or two numbers are counted, and a search ends at the least: by induction on how many were
--- looked at. Assumes nothing.
+-- Counting reaches one or two exactly where one or two numbers are counted, a larger value for each gives no smaller count, and a search ends
+-- at the least: by induction on how many were looked at. Assumes nothing.
 use Prim.Native.Nat.{ℕ, zero, suc, _+_, _≤_, _<_}
 use mathlib.Core.Path.{_≡_, refl, sym, _∙_, subst}
 use mathlib.Core.Bool.{Bool, true, false, false≢true}
@@ -7,8 +7,9 @@ use mathlib.Core.Logic.{_⊎_, inl, inr, ⊎-elim}
 use native.Mathlib.Nat.{not-suc-le-zero, eq-or-lt-of-le, le-of-suc-le-suc}
 use native.Mathlib.Omega.{arith}
 use lib.Dec.{eqb, ltb}
-use borrow.Author.Tests.{eq-eqb, ne-eqb, ltb-true, ltb-false}
+use borrow.Author.Tests.{eq-eqb, ne-eqb, ltb-true, ltb-false, leb-true, le-leb}
 use Rattle.meaning.specs.Base.{pick, fold, countBelow, firstWhere}
+use Rattle.meaning.specs.Rules.{atLeast}
 use Rattle.demands.specs.Broken.{Least}
 
 module _ (p : ℕ → Bool) where
@@ -85,14 +86,32 @@ module _ (p : ℕ → Bool) where
       (λ h. ((h .0, h .1), λ k l q. false≢true (sym (h .2 k l) ∙ q .1)))
       (ends n)
 
+-- MORE
+pick-mono : (a b : Bool) → (a ≡ true → b ≡ true) → pick {A = ℕ} a 1 0 ≤ pick b 1 0
+pick-mono true b f = rw (f refl) (omega arith)
+pick-mono false b f = omega arith
+
+count-mono : (g h : ℕ → Bool) → ((j : ℕ) → g j ≡ true → h j ≡ true) → (n : ℕ) → countBelow g n ≤ countBelow h n
+unfolding countBelow fold
+count-mono g h f zero = omega arith
+count-mono g h f (suc n) = omega (arith, pick-mono (g n) (h n) (f n), count-mono g h f n)
+
+pub atLeast-mono : (v w : ℕ → ℕ) → ((j : ℕ) → v j ≤ w j) → (n k : ℕ) → atLeast v n k ≤ atLeast w n k
+unfolding atLeast
+atLeast-mono v w le n k = count-mono _ _ (λ j h. le-leb k (w j) (omega (arith, leb-true k (v j) h, le j))) n
+
+-- LEAST
+-- a number is below another or not
+pub below-or-past : (i n : ℕ) → (i < n) ⊎ (n ≤ i)
+below-or-past i n = by (ltb i n) refl
+  where
+    by : (b : Bool) → ltb i n ≡ b → (i < n) ⊎ (n ≤ i)
+    by true e = inl (ltb-true i n e)
+    by false e = inr (ltb-false i n e)
+
 -- one of two numbers is less, or they are equal
 pub order : (a b : ℕ) → (a < b) ⊎ ((a ≡ b) ⊎ (b < a))
-order a b = by (ltb a b) (ltb b a) refl refl
-  where
-    by : (x y : Bool) → ltb a b ≡ x → ltb b a ≡ y → (a < b) ⊎ ((a ≡ b) ⊎ (b < a))
-    by true y e f = inl (ltb-true a b e)
-    by false true e f = inr (inr (ltb-true b a f))
-    by false false e f = inr (inl (omega (arith, ltb-false a b e, ltb-false b a f)))
+order a b = ⊎-elim inl (λ le. ⊎-elim (λ e. inr (inl (sym e))) (λ l. inr (inr l)) (eq-or-lt-of-le le)) (below-or-past a b)
 
 -- there is one least only
 pub least-unique : {P : ℕ → Type 0} {i j : ℕ} → Least P i → Least P j → i ≡ j

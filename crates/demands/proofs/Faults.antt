@@ -153,10 +153,6 @@ numbers-wide f h = record { has = λ n p s e. f n (h .has n p s e) }
 pub numbers-of : {P : ℕ → Type 0} {o : Outcome} {G : Type 0} {B : ℕ → ℕ → ℕ → Type 0} → Search o G B → ((n p s : ℕ) → B n p s → P n) → Numbers P o
 numbers-of f h = record { has = λ n p s e. h n p s (f .fault n p s .0 e) }
 
-pub numbers-pick : {P : ℕ → Type 0} (b : Bool) {a c : Outcome} → Numbers P a → Numbers P c → Numbers P (pick b a c)
-numbers-pick true h k = h
-numbers-pick false h k = k
-
 -- the number that is answered: 0, or the fault's
 pub numbers-answer : {P : ℕ → Type 0} (o : Outcome) → P 0 → Numbers P o → P (answerOf o .number)
 numbers-answer Clean z h = z

@@ -20,7 +20,8 @@ use Rattle.meaning.specs.Clearance.{walkOf}
 use Rattle.meaning.specs.Findings.{selectOf, findingKind, headFault, witnessTable, witnessFault, walkFault, clearanceFault, symbolRoomFault, findingRefusal, bodyFault, findingOutcome}
 use Rattle.demands.specs.Broken.{Spot, typed, lower, upper, default, range, one, kind, mandatory, modules, ruleOf}
 use Rattle.demands.specs.Refused.{Between, TableNumber, FindingNumber}
-use Rattle.demands.proofs.Faults.{Numbers, numbers-when, numbers-then, numbers-of, numbers-wide, numbers-pick, numbers-answer}
+use Rattle.demands.proofs.Bools.{pick-both}
+use Rattle.demands.proofs.Faults.{Numbers, numbers-when, numbers-then, numbers-of, numbers-wide, numbers-answer}
 use Rattle.demands.proofs.BookParts.{book-search, book-cases}
 use Rattle.demands.proofs.Readable.{table-search}
 use Rattle.demands.proofs.FirstBroken.{first-broken}
@@ -123,7 +124,7 @@ module _ (m f : List ℕ) where
   pub body-numbers : Numbers OfBody (bodyFault m f)
   unfolding bodyFault
   body-numbers =
-      numbers-pick (eqb (findingKind f) 0)
+      pick-both (Numbers OfBody) (eqb (findingKind f) 0)
       (numbers-wide (λ n. ⊎-elim inl (⊎-elim (λ x. inr (inl x)) (λ x. inr (inr (omega (arith, x .0, x .1)))))) witness-numbers)
       (numbers-wide (λ n x. inr (inr (omega (arith, x .0, x .1)))) clearance-numbers)
 

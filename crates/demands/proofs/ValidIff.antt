@@ -2,7 +2,7 @@
 -- places at once. A range that the book's check passed is on a symbol, so its symbol is listed. Assumes nothing.
 use Prim.Native.Nat.{ℕ, _<_}
 use mathlib.Core.Path.{_≡_, refl}
-use mathlib.Core.Bool.{Bool, true, false, _&&_, _||_}
+use mathlib.Core.Bool.{Bool, true, false, _||_}
 use mathlib.Core.Logic.{_⊎_, inl, inr, _↔_, _≢_, ⊎-elim, Iff·trans, Iff·symm}
 use mathlib.Core.List.{List, [], _∷_}
 use native.Mathlib.Omega.{arith}
@@ -10,7 +10,7 @@ use lib.Dec.{eqb, ltb}
 use borrow.Author.Tests.{eqb-true, eqb-false, ltb-true, ltb-false}
 use Rattle.meaning.specs.declared.Outcome.{Outcome}
 use Rattle.meaning.specs.declared.Outcome.the-variants.{Clean, Fault}
-use Rattle.meaning.specs.Book.{symbols, ranges, choices, typeOf, rangeSymbol, lowOf, highOf, modulesOf, boundOk, rangeOk, WellFormed}
+use Rattle.meaning.specs.Book.{symbols, ranges, choices, typeOf, rangeSymbol, modulesOf, rangeOk, WellFormed}
 use Rattle.meaning.specs.Table.{valueOf}
 use Rattle.meaning.specs.Rules.{ruleFault}
 use Rattle.meaning.specs.Valid.{Valid}
@@ -128,20 +128,17 @@ module _ (m t : List ℕ) where
         }),
   )
 
+-- a range that passed is on an int or a hex symbol
+pub range-on : (m : List ℕ) (r : ℕ) → rangeOk m r ≡ true
+    → (rangeSymbol m r < symbols m) × ((eqb (typeOf m (rangeSymbol m r)) 3 || eqb (typeOf m (rangeSymbol m r)) 4) ≡ true)
+unfolding rangeOk
+range-on m r e =
+    let h = both (ltb (rangeSymbol m r) (symbols m)) (both _ (both _ (both _ e .0) .0) .0) in
+    (ltb-true (rangeSymbol m r) (symbols m) (h .0), h .1)
+
 -- VALID, rule by rule and place by place
 pub valid-holds : (m t : List ℕ) → WellFormed m → Valid m t ↔ All (Holds m t) (listed m)
-unfolding rangeOk
-valid-holds m t w = Iff·trans (valid-everywhere m t (λ r l. on r (w .range r l))) (Iff·symm (all-listed (Holds m t) m))
-  where
-    on : (r : ℕ) → rangeOk m r ≡ true → rangeSymbol m r < symbols m
-    on r e =
-        let y = typeOf m (rangeSymbol m r) in
-        let symbol = ltb (rangeSymbol m r) (symbols m) in
-        let int = eqb y 3 || eqb y 4 in
-        let low = boundOk m y (lowOf m r) in
-        let high = boundOk m y (highOf m r) in
-        ltb-true (rangeSymbol m r) (symbols m)
-        (both symbol (both (symbol && int) (both (symbol && int && low) (both (symbol && int && low && high) e .0) .0) .0) .0)
+valid-holds m t w = Iff·trans (valid-everywhere m t (λ r l. range-on m r (w .range r l) .0)) (Iff·symm (all-listed (Holds m t) m))
 
 -- VALID, by the tests
 pub valid-iff : (m t : List ℕ) → WellFormed m → (ruleFault m t ≡ Clean) ↔ Valid m t
