@@ -32,3 +32,4 @@ pub mod Singles
 pub mod ThreeModels
 pub mod Leaves
 pub mod Full
+pub mod Demands
