@@ -74,23 +74,6 @@ unfolding tabulate
 full-map g zero = refl
 full-map g (suc n) = ap (λ (l : List ℕ). l ++ (full (g n) ∷ [])) (full-map g n) ∙ sym (map-append full (tabulate g n) (g n ∷ []))
 
--- LENGTH: it doubles with each symbol at least, so what can be read has few symbols
-both-long : (c : Bool) (n : ℕ) (a b d : List ℕ) → n ≤ length a → n ≤ length b → n * 2 ≤ length (pick c (a ++ b) (a ++ (d ++ b)))
-both-long true n a b d la lb = omega (arith, length-append a b)
-both-long false n a b d la lb = omega (arith, length-append a (d ++ b), length-append d b)
-
-leaf-long : (q : ℕ) (o : Outcome) → 1 ≤ length (leafBytes q o)
-leaf-long q Clean = omega arith
-leaf-long q (Fault n p s) = omega arith
-
-tree-long : (m : List ℕ) (q : ℕ) (ts vs : List ℕ) → 2 ^ length ts ≤ length (completeTree m q ts vs)
-unfolding completeTree bytesOf
-tree-long m q [] vs = leaf-long q (ruleFault m (tableOf vs))
-tree-long m q (y ∷ ts) vs =
-    let below : ℕ → List ℕ = λ v. completeTree m q ts (vs ++ (v ∷ [])) in
-    let long = both-long (eqb y 0) (2 ^ length ts) (below 0) (below 2) (below 1) (tree-long m q ts _) (tree-long m q ts _) in
-    omega (arith, pow-suc 2 (length ts), long)
-
 -- THE HEAD, and where the tree stands
 module _ (m : List ℕ) (q : ℕ) where
   abbrev tree : List ℕ
@@ -191,6 +174,23 @@ module _ (m : List ℕ) (q : ℕ) (wf : WellFormed m) (all : (s : ℕ) → s < s
       let w = tree-walked f (types m) [] (fullSets m) 64 start types-small (rw (tabulate-length (typeOf m) (symbols m)) few) [] 4 here in
       let end : w .to ≡ length f = omega (arith, w .left .ends) in
       rw (complete-select m q, w .walk, eq-eqb (w .to) (length f) end)
+
+-- LENGTH: it doubles with each symbol at least, so what can be read has few symbols
+both-long : (c : Bool) (n : ℕ) (a b d : List ℕ) → n ≤ length a → n ≤ length b → n * 2 ≤ length (pick c (a ++ b) (a ++ (d ++ b)))
+both-long true n a b d la lb = omega (arith, length-append a b)
+both-long false n a b d la lb = omega (arith, length-append a (d ++ b), length-append d b)
+
+leaf-long : (q : ℕ) (o : Outcome) → 1 ≤ length (leafBytes q o)
+leaf-long q Clean = omega arith
+leaf-long q (Fault n p s) = omega arith
+
+tree-long : (m : List ℕ) (q : ℕ) (ts vs : List ℕ) → 2 ^ length ts ≤ length (completeTree m q ts vs)
+unfolding completeTree bytesOf
+tree-long m q [] vs = leaf-long q (ruleFault m (tableOf vs))
+tree-long m q (y ∷ ts) vs =
+    let below : ℕ → List ℕ = λ v. completeTree m q ts (vs ++ (v ∷ [])) in
+    let long = both-long (eqb y 0) (2 ^ length ts) (below 0) (below 2) (below 1) (tree-long m q ts _) (tree-long m q ts _) in
+    omega (arith, pow-suc 2 (length ts), long)
 
 few-symbols : (m : List ℕ) (q : ℕ) → length (complete m q) ≤ 65535 → symbols m ≤ 64
 few-symbols m q le = ⊎-elim (λ lt. omega arith) (λ many. absurd (long many)) (below-or-past (symbols m) 16)
