@@ -1,8 +1,8 @@
 -- THE CLEARANCE DEMANDS: an accepted clearance is right, and where a select is never unmet the complete clearance is accepted. Each is the
 -- theorem over the tests, with what the tests say in the place of the tests. Assumes nothing.
 use Prim.Native.Nat.{ℕ, _≤_, _<_}
-use mathlib.Core.Path.{_≡_, refl}
-use mathlib.Core.Bool.{true}
+use mathlib.Core.Path.{_≡_}
+use mathlib.Core.Logic.{_↔_, Iff·rfl, Iff·trans, Iff·and}
 use mathlib.Core.List.{List}
 use lib.ListN.{length}
 use Rattle.meaning.specs.declared.Outcome.the-variants.{Clean}
@@ -10,18 +10,16 @@ use Rattle.meaning.specs.Book.{symbols, nodes, selects, typeOf, WellFormed}
 use Rattle.meaning.specs.Table.{Readable}
 use Rattle.meaning.specs.Rules.{unmet}
 use Rattle.meaning.specs.Valid.{Valid, Unmet}
-use Rattle.meaning.specs.Sets.{sat, fullSets}
-use Rattle.meaning.specs.Picks.{In, Closed}
-use Rattle.meaning.specs.Clearance.{leafStands}
+use Rattle.meaning.specs.Sets.{fullSets}
 use Rattle.meaning.specs.Findings.{selectOf, findingKind, findingOutcome, complete}
-use Rattle.demands.specs.Paths.{Path}
+use Rattle.demands.specs.Refused.{Admitted}
+use Rattle.demands.specs.Paths.{ClosedTree}
 use Rattle.demands.proofs.Bools.{Denies, denies-it}
 use Rattle.demands.proofs.Readable.{readable-iff}
 use Rattle.demands.proofs.ValidIff.{valid-iff}
 use Rattle.demands.proofs.Witness.{says-unmet}
 use Rattle.demands.proofs.FindingRefusals.{clearance-accepted}
-use Rattle.demands.proofs.Picked.{path-closed-iff}
-use Rattle.demands.proofs.Walks.{accepted-says}
+use Rattle.demands.proofs.Walks.{clearance-iff}
 use Rattle.demands.proofs.Sound.{sound-tests}
 use Rattle.demands.proofs.Full.{complete-kind, complete-head, complete-tests}
 
@@ -49,12 +47,10 @@ clearance-complete m q nodeRoom symbolRoom wf lt all clear short nodeFits symbol
           short,
     )
 
--- CLOSED: whichever values the types allow, an accepted clearance has a leaf on their path that is closed, under every independent pick
-pub clearance-accepted-closes : (m f : List ℕ) (nodeRoom symbolRoom : ℕ) → findingKind f ≡ 1 → findingOutcome m f nodeRoom symbolRoom ≡ Clean
-    → (v : ℕ → ℕ) → ((i : ℕ) → In (sat (fullSets m) i) (v i))
-    → (ys : List ℕ) × (rule : ℕ) × (place : ℕ) × Path m ys × ((i : ℕ) → In (sat ys i) (v i)) × (leafStands m (selectOf f) rule place ≡ true)
-    × Closed m (selectOf f) ys rule place
-clearance-accepted-closes m f nodeRoom symbolRoom kind accepted v within =
-    accepted-says m (selectOf f) f v _
-    (λ ys rule place path own stands closed. (ys, rule, place, path, own, stands, path-closed-iff m (selectOf f) ys rule place path .0 closed))
-    (clearance-accepted m f nodeRoom symbolRoom kind .0 accepted .1) refl within
+-- CLOSED: a clearance is accepted exactly where nothing of 1 to 4, 21, 7 and 8 is wrong and its bytes behind the head are one tree to the end, with no
+-- more than 64 splits on a path, every leaf of which is closed on its path: its rule is broken under every independent pick
+pub clearance-accepted-closes : (m f : List ℕ) (nodeRoom symbolRoom : ℕ) → findingKind f ≡ 1
+    → (findingOutcome m f nodeRoom symbolRoom ≡ Clean)
+    ↔ (Admitted m f nodeRoom symbolRoom × ClosedTree m (selectOf f) f 64 (fullSets m) 4 (length f))
+clearance-accepted-closes m f nodeRoom symbolRoom kind =
+    Iff·trans (clearance-accepted m f nodeRoom symbolRoom kind) (Iff·and Iff·rfl (clearance-iff m f))

@@ -20,7 +20,7 @@ use Rattle.meaning.specs.Picks.{In}
 use Rattle.meaning.specs.Clearance.{leafStands, closedOn}
 use Rattle.meaning.specs.Findings.{tableOf}
 use Rattle.demands.proofs.Bools.{both, not-both}
-use Rattle.demands.proofs.Lifts.{three, in-small, Is, is-lifts}
+use Rattle.demands.proofs.Lifts.{each-of, in-small, Is, is-lifts}
 use Rattle.demands.proofs.Relate.{node}
 use Rattle.demands.proofs.Counts.{some-counted}
 use Rattle.demands.proofs.Tables.{table-clean, table-content}
@@ -32,7 +32,7 @@ use Rattle.demands.proofs.ThreeModels.{all-three, no-free, no-range, bo
 full-fits : (y v : ℕ) → y ≤ 1 → In (full y) v → typeFits y (aThree v) ≡ true
 unfolding full has
 full-fits zero v le h =
-    three (λ v. In 5 v → typeFits 0 (aThree v) ≡ true) (λ _. refl) (λ h. absurd (false≢true h)) (λ _. refl) v (in-small 5 v h) h
+    each-of (λ v. In 5 v → typeFits 0 (aThree v) ≡ true) (λ _. refl) (λ h. absurd (false≢true h)) (λ _. refl) v (in-small 5 v h) h
 full-fits (suc zero) v le h = refl
 full-fits (suc (suc y)) v le h = absurd (omega arith)
 

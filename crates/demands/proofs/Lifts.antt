@@ -14,11 +14,11 @@ use Rattle.demands.specs.Paths.{NonEmpty}
 use Rattle.demands.proofs.Bools.{or-cases, both, not-both, pick-cases, pick-both}
 
 -- what holds of 0, 1 and 2 holds of each value
-pub three : (P : ℕ → Type 0) → P 0 → P 1 → P 2 → (v : ℕ) → v < 3 → P v
-three P a b c zero lt = a
-three P a b c (suc zero) lt = b
-three P a b c (suc (suc zero)) lt = c
-three P a b c (suc (suc (suc v))) lt = absurd (omega arith)
+pub each-of : (P : ℕ → Type 0) → P 0 → P 1 → P 2 → (v : ℕ) → v < 3 → P v
+each-of P a b c zero lt = a
+each-of P a b c (suc zero) lt = b
+each-of P a b c (suc (suc zero)) lt = c
+each-of P a b c (suc (suc (suc v))) lt = absurd (omega arith)
 
 or-left : (a b : Bool) → a ≡ true → (a || b) ≡ true
 or-left a b e = rw e
@@ -50,7 +50,7 @@ bits false false false = (refl, refl, refl)
 
 never : (v : ℕ) → In 0 v → ⊥
 unfolding has
-never v h = three (λ v. In 0 v → ⊥) false≢true false≢true false≢true v (in-small 0 v h) h
+never v h = each-of (λ v. In 0 v → ⊥) false≢true false≢true false≢true v (in-small 0 v h) h
 
 -- each type allows n
 pub full-n : (y : ℕ) → In (full y) 0
@@ -60,16 +60,16 @@ full-n y = pick-both (λ (a : ℕ). In a 0) (eqb y 0) refl (pick-both (λ (a : �
 -- ONE VALUE ALONE
 pub only-in : (v : ℕ) → v < 3 → In (only v) v
 unfolding openSets
-only-in = three (λ v. In (only v) v) refl refl refl
+only-in = each-of (λ v. In (only v) v) refl refl refl
 
 pub only-is : (v w : ℕ) → v < 3 → In (only v) w → w ≡ v
 unfolding openSets
 only-is v w lt h =
     let small = in-small (only v) w h in
-    three (λ v. In (only v) w → w ≡ v)
-    (three (λ w. In 1 w → w ≡ 0) (λ _. refl) (λ z. absurd (false≢true z)) (λ z. absurd (false≢true z)) w small)
-    (three (λ w. In 2 w → w ≡ 1) (λ z. absurd (false≢true z)) (λ _. refl) (λ z. absurd (false≢true z)) w small)
-    (three (λ w. In 4 w → w ≡ 2) (λ z. absurd (false≢true z)) (λ z. absurd (false≢true z)) (λ _. refl) w small)
+    each-of (λ v. In (only v) w → w ≡ v)
+    (each-of (λ w. In 1 w → w ≡ 0) (λ _. refl) (λ z. absurd (false≢true z)) (λ z. absurd (false≢true z)) w small)
+    (each-of (λ w. In 2 w → w ≡ 1) (λ z. absurd (false≢true z)) (λ _. refl) (λ z. absurd (false≢true z)) w small)
+    (each-of (λ w. In 4 w → w ≡ 2) (λ z. absurd (false≢true z)) (λ z. absurd (false≢true z)) (λ _. refl) w small)
     v lt h
 
 -- ONE MORE
@@ -77,7 +77,7 @@ has-with : (a w v : ℕ) → v < 3 → has (withOne a w) v ≡ (has a v || eqb w
 unfolding withOne
 has-with a w =
     let b = bits (has a 0 || eqb w 0) (has a 1 || eqb w 1) (has a 2 || eqb w 2) in
-    three (λ v. has (withOne a w) v ≡ (has a v || eqb w v)) (b .0) (b .1) (b .2)
+    each-of (λ v. has (withOne a w) v ≡ (has a v || eqb w v)) (b .0) (b .1) (b .2)
 
 with-new : (a v : ℕ) → v < 3 → In (withOne a v) v
 with-new a v lt = has-with a v v lt ∙ or-right (has a v) (eqb v v) (eq-eqb v v refl)
@@ -176,7 +176,7 @@ has-join : (a b v : ℕ) → v < 3 → has (join a b) v ≡ (has a v || has b v)
 unfolding join
 has-join a b =
     let c = bits (has a 0 || has b 0) (has a 1 || has b 1) (has a 2 || has b 2) in
-    three (λ v. has (join a b) v ≡ (has a v || has b v)) (c .0) (c .1) (c .2)
+    each-of (λ v. has (join a b) v ≡ (has a v || has b v)) (c .0) (c .1) (c .2)
 
 join-left : (a b v : ℕ) → In a v → In (join a b) v
 join-left a b v h = has-join a b v (in-small a v h) ∙ or-left (has a v) (has b v) h
@@ -191,7 +191,7 @@ join-from a b v h = or-cases (has a v) (has b v) (sym (has-join a b v (in-small 
 pub choose-in : (c a r x y z : ℕ) → In c x → In a y → In r z → In (chooseSet c a r) (pick (ltb 0 x) y z)
 unfolding chooseSet
 choose-in c a r x y z hc ha hr =
-    three (λ x. In c x → In (chooseSet c a r) (pick (ltb 0 x) y z))
+    each-of (λ x. In c x → In (chooseSet c a r) (pick (ltb 0 x) y z))
     (λ h. join-right (pick (has c 1 || has c 2) a 0) (pick (has c 0) r 0) z (rw h hr))
     (λ h. join-left (pick (has c 1 || has c 2) a 0) (pick (has c 0) r 0) y (rw (or-left (has c 1) (has c 2) h) ha))
     (λ h. join-left (pick (has c 1 || has c 2) a 0) (pick (has c 0) r 0) y (rw (or-right (has c 1) (has c 2) h) ha))
@@ -216,7 +216,7 @@ choose-from c a r z h = ⊎-elim (λ i. inl (above i)) (λ i. inr (none i)) (joi
 pub least-le : (a v : ℕ) → In a v → least a ≤ v
 unfolding least
 least-le a v h =
-    three (λ v. In a v → least a ≤ v)
+    each-of (λ v. In a v → least a ≤ v)
     (λ h. rw h (omega arith))
     (λ h. rw h (pick-both (λ (x : ℕ). x ≤ 1) (has a 0) (omega arith) (omega arith)))
     (λ h. pick-both (λ (x : ℕ). x ≤ 2) (has a 0) (omega arith) (pick-both (λ (x : ℕ). x ≤ 2) (has a 1) (omega arith) (omega arith)))
@@ -225,7 +225,7 @@ least-le a v h =
 pub le-most : (a v : ℕ) → In a v → v ≤ most a
 unfolding most
 le-most a v h =
-    three (λ v. In a v → v ≤ most a)
+    each-of (λ v. In a v → v ≤ most a)
     (λ h. omega arith)
     (λ h. rw h (pick-both (λ (x : ℕ). 1 ≤ x) (has a 2) (omega arith) (omega arith)))
     (λ h. rw h (omega arith))
@@ -237,14 +237,14 @@ unfolding least
 least-in a v h =
     pick-cases (In a) (has a 0) (λ e. e)
     (λ no. pick-cases (In a) (has a 1) (λ e. e)
-    (λ nor. three (λ v. In a v → In a 2) (λ e. not-both no e) (λ e. not-both nor e) (λ e. e) v (in-small a v h) h))
+    (λ nor. each-of (λ v. In a v → In a 2) (λ e. not-both no e) (λ e. not-both nor e) (λ e. e) v (in-small a v h) h))
 
 pub most-in : (a v : ℕ) → In a v → In a (most a)
 unfolding most
 most-in a v h =
     pick-cases (In a) (has a 2) (λ e. e)
     (λ no. pick-cases (In a) (has a 1) (λ e. e)
-    (λ nor. three (λ v. In a v → In a 0) (λ e. e) (λ e. not-both nor e) (λ e. not-both no e) v (in-small a v h) h))
+    (λ nor. each-of (λ v. In a v → In a 0) (λ e. e) (λ e. not-both nor e) (λ e. not-both no e) v (in-small a v h) h))
 
 -- A RELATION of sets to values that each value alone has, and that pairs keep
 pub record Lifts (R : ℕ → ℕ → Type 0) : Type 0 where

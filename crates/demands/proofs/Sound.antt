@@ -14,19 +14,17 @@ use Rattle.meaning.specs.Table.{entries, contentOf, valueOf, tableFault}
 use Rattle.meaning.specs.Values.{val, yesNo, nodeValues}
 use Rattle.meaning.specs.Rules.{typeFits, test10, symbolFault, choiceFault, test18, rulesFault, ruleFault, unmet}
 use Rattle.meaning.specs.Sets.{has, sat, nodeSets}
-use Rattle.meaning.specs.Picks.{In, brokenPicked}
-use Rattle.meaning.specs.Clearance.{leafStands, closedOn}
+use Rattle.meaning.specs.Picks.{In, brokenPicked, Closed}
+use Rattle.meaning.specs.Clearance.{leafStands}
 use Rattle.meaning.specs.Findings.{selectOf, clearanceFault}
 use Rattle.meaning.proofs.First.{IsClean, orElse-iff, when-iff, a-fault, clean-all}
-use Rattle.demands.specs.Paths.{Path}
 use Rattle.demands.proofs.Bools.{pick-cases, both, not-both}
 use Rattle.demands.proofs.Lifts.{in-lifts}
 use Rattle.demands.proofs.Relate.{node}
 use Rattle.demands.proofs.Readable.{readable-iff}
 use Rattle.demands.proofs.Typed.{typed-three, typed-in}
-use Rattle.demands.proofs.Picked.{path-closed-iff}
 use Rattle.demands.proofs.Own.{own, own-allowed, Broken, own-three, own15, own17, own18, own20}
-use Rattle.demands.proofs.Walks.{accepted-says}
+use Rattle.demands.proofs.Walks.{tree-says, clearance-iff}
 
 n-or-y : (b : Bool) → In 5 (yesNo b)
 unfolding has
@@ -108,17 +106,16 @@ module _ (m t : List ℕ) (readable : tableFault t (symbols m) ≡ Clean) (clean
           P : Bool → Type 0
           P b = b ≡ true → unmet m t q ≡ false
 
-  leaf : (q : ℕ) (ys : List ℕ) (rule place : ℕ) → Path m ys → ((i : ℕ) → In (sat ys i) (valueOf t i)) → leafStands m q rule place ≡ true
-      → closedOn m q ys rule place ≡ true → unmet m t q ≡ false
-  leaf q ys rule place path within ok closed =
-      met q rule place ok (path-closed-iff m q ys rule place path .0 closed (own m q t place) (own-allowed m q t place ys within nodes-within))
+  leaf : (q : ℕ) (ys : List ℕ) (rule place : ℕ) → ((i : ℕ) → In (sat ys i) (valueOf t i)) → leafStands m q rule place ≡ true
+      → Closed m q ys rule place → unmet m t q ≡ false
+  leaf q ys rule place within ok closed = met q rule place ok (closed (own m q t place) (own-allowed m q t place ys within nodes-within))
     where
       nodes-within : (i : ℕ) → In (sat (nodeSets m ys) i) (val vs i)
       nodes-within = node In in-lifts m ys t within (typed-three m t counted fits) (λ i _ _ _. n-or-y)
 
   cleared : (f : List ℕ) → clearanceFault m f ≡ Clean → unmet m t (selectOf f) ≡ false
   cleared f accepted =
-      accepted-says m (selectOf f) f (valueOf t) (unmet m t (selectOf f) ≡ false) (leaf (selectOf f)) accepted refl (typed-in m t counted fits)
+      tree-says m (selectOf f) f (valueOf t) (unmet m t (selectOf f) ≡ false) (leaf (selectOf f)) (clearance-iff m f .0 accepted) (typed-in m t counted fits)
 
 -- over every model, table and finding at all
 pub sound-tests : (m f t : List ℕ) → clearanceFault m f ≡ Clean → tableFault t (symbols m) ≡ Clean → ruleFault m t ≡ Clean

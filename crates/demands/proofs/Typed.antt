@@ -14,7 +14,7 @@ use Rattle.meaning.specs.Rules.{typeFits}
 use Rattle.meaning.specs.Sets.{has, only, full, sat, fullSets}
 use Rattle.meaning.specs.Picks.{In}
 use Rattle.demands.proofs.Contents.{value-three}
-use Rattle.demands.proofs.Lifts.{three, only-in, full-n}
+use Rattle.demands.proofs.Lifts.{each-of, only-in, full-n}
 use Rattle.demands.proofs.Counts.{below-or-past}
 use Rattle.demands.proofs.Tabulated.{full-at, full-past}
 
@@ -37,8 +37,8 @@ fits-three (suc (suc y)) x small fits = absurd (omega (arith, leb-true (suc (suc
 fits-full : (y : ℕ) (x : Content) → threeIn x ≤ 2 → typeFits y x ≡ true → In (full y) (threeIn x)
 unfolding full has
 fits-full zero (aThree v) small fits =
-    three (λ v. typeFits 0 (aThree v) ≡ true → In 5 v) (λ _. refl) (λ h. absurd (false≢true h)) (λ _. refl) v (omega arith) fits
-fits-full (suc zero) (aThree v) small fits = three (In 7) refl refl refl v (omega arith)
+    each-of (λ v. typeFits 0 (aThree v) ≡ true → In 5 v) (λ _. refl) (λ h. absurd (false≢true h)) (λ _. refl) v (omega arith) fits
+fits-full (suc zero) (aThree v) small fits = each-of (In 7) refl refl refl v (omega arith)
 fits-full (suc (suc y)) (aThree v) small fits =
     absurd (false≢true (rw (ne-eqb (suc (suc y)) 0 (λ e. omega arith), ne-eqb (suc (suc y)) 1 (λ e. omega arith)) at fits))
 fits-full y (aText l) small fits = full-n y
