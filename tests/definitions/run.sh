@@ -40,6 +40,7 @@ refused() {
     prove "$1" meaning || { echo "$1: meaning itself refuses it: $(grep -m 1 ' error: ' "$work/$1.meaning")"; return 1; }
     if prove "$1" demands; then echo "$1: NOT refused"; return 1; fi
     error=$(grep -m 1 ' error: ' "$work/$1.demands" || tail -n 1 "$work/$1.demands")
+    # shellcheck disable=SC2016
     fact=$(printf '%s\n' "$error" | grep -v 'not in scope' |
         sed -n 's|^.*/crates/demands/\(proofs/[A-Za-z]*\.antt\):[0-9:]* error: `\([^`]*\)`: .*|\1, \2|p')
     [ -n "$fact" ] || { echo "$1: not refused for a fact: $error"; return 1; }
@@ -56,5 +57,5 @@ for edit in tests/definitions/*.edit; do
 done
 wait
 set -- "$work"/*.refused
-[ $# -eq "$count" ] && [ -e "$1" ] || { echo "not every edit was refused as it should be" >&2; exit 1; }
+if [ $# -ne "$count" ] || [ ! -e "$1" ]; then echo "not every edit was refused as it should be" >&2; exit 1; fi
 echo "$count definition edits refused"
