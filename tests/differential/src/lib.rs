@@ -10,4 +10,5 @@ pub mod docs;
 pub mod names;
 mod refs;
 pub mod selftest;
+pub mod show;
 pub mod shrink;

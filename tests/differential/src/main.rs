@@ -15,10 +15,10 @@
 
 use differential::archive::{FINDINGS, NO_FINDINGS};
 use differential::big::{self, Big, Shape};
-use differential::compare::{compare, differs, Difference};
-use differential::shrink::shrunk;
+use differential::compare::{compare, differs};
+use differential::show::{from_hex, show, KINDS};
 use differential::{docs, selftest};
-use second::cases::{hex, Case, NAME};
+use second::cases::{Case, NAME};
 use second::gen::dice::Dice;
 use second::gen::{self, Which};
 use second::named;
@@ -39,9 +39,6 @@ const SHOWN: usize = 3;
 
 /// The seed of the self-test.
 const SELF_TEST: u64 = 11;
-
-/// The words for the kinds of cases.
-const KINDS: [&str; 4] = ["table", "finding", "name", "program"];
 
 fn main() -> ExitCode {
     let words: Vec<String> = std::env::args().skip(1).collect();
@@ -211,35 +208,9 @@ fn label(kind: u32, answer: u32) -> String {
     }
 }
 
-/// Shows a difference, and the smallest case found that still has one.
-fn show(case: &Case, difference: &Difference) {
-    println!("DIFFERENCE in {} ({} + {} bytes)", case.name, case.model.len(), case.second.len());
-    println!("  archive: {}", cut(&difference.archive));
-    println!("  second:  {}", cut(&difference.second));
-    let small = shrunk(case);
-    let Err(left) = compare(&small) else {
-        println!("  it comes and goes: the same case did not differ again");
-        return;
-    };
-    println!("  shrunk to {} + {} bytes", small.model.len(), small.second.len());
-    println!("  model   {}", cut(&hex(&small.model)));
-    println!("  {:7} {}", KINDS[small.kind as usize], cut(&hex(&small.second)));
-    println!("  archive: {}", cut(&left.archive));
-    println!("  second:  {}", cut(&left.second));
-    println!("  case {}", selftest::to_hex(&small));
-}
-
-/// A long line, cut.
-fn cut(line: &str) -> String {
-    match line.char_indices().nth(400) {
-        Some((at, _)) => format!("{}... ({} in all)", &line[..at], line.len()),
-        None => line.to_string(),
-    }
-}
-
 /// Runs one case of the protocol, given in hex.
 fn one_case(text: &str) -> ExitCode {
-    let Some(case) = selftest::from_hex(text) else {
+    let Some(case) = from_hex(text) else {
         eprintln!("these bytes are no case");
         return ExitCode::from(2);
     };

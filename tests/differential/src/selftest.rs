@@ -3,8 +3,9 @@
 
 use crate::archive::FINDINGS;
 use crate::compare::{blind_the_judge, compare, differs};
+use crate::show::{from_hex, to_hex};
 use crate::shrink::shrunk;
-use second::cases::{hex, Case};
+use second::cases::Case;
 
 /// The answers that the judge is made blind to, one after the other.
 const TABLES: [u32; 5] = [3, 6, 11, 14, 15];
@@ -63,20 +64,4 @@ fn one(answer: u32, generated: &impl Fn(u64) -> Case) -> Result<(u64, Case, Case
             _ => Err("the right judge does NOT see that answer in the shrunk case".into()),
         },
     }
-}
-
-/// A case of the protocol in hex.
-pub fn to_hex(case: &Case) -> String {
-    let mut bytes = Vec::new();
-    case.write(&mut bytes);
-    hex(&bytes)
-}
-
-/// The case of the protocol that hex spells.
-pub fn from_hex(text: &str) -> Option<Case> {
-    let digits: Option<Vec<u8>> = text.chars().map(|c| Some(c.to_digit(16)? as u8)).collect();
-    let digits = digits.filter(|digits| digits.len() % 2 == 0)?;
-    let bytes: Vec<u8> = digits.chunks(2).map(|pair| pair[0] << 4 | pair[1]).collect();
-    let (case, taken) = Case::read(&bytes)?;
-    (taken == bytes.len()).then_some(case)
 }
