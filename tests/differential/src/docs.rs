@@ -112,11 +112,11 @@ fn one(block: &[(String, String)], files: &Path) -> Result<bool, String> {
 /// Whether the second program draws what the example says.
 fn stated<'b>(case: &Case, value: &impl Fn(&str) -> Option<&'b str>) -> Result<(), String> {
     let drawn = String::from_utf8_lossy(&case.answer()).into_owned();
-    let drawn = drawn.trim_end().trim_start_matches("example ");
+    let drawn = drawn.strip_prefix("example").unwrap_or(&drawn).trim();
     if case.kind == NAME {
         let due = value("name").ok_or("no name")?;
         let due = hex(due.as_bytes());
-        return if drawn.trim() == due { Ok(()) } else { Err(format!("the name is {drawn}")) };
+        return if drawn == due { Ok(()) } else { Err(format!("the name is {drawn}")) };
     }
     let due = value("answer").ok_or("no answer")?;
     let mut words: Vec<&str> = due.split_whitespace().collect();
