@@ -110,11 +110,11 @@ fn mend_model(bytes: &mut [u8]) -> usize {
     }
     let most = bytes.len().min(65535);
     let mut at = HEAD;
-    for section in 0..8 {
-        let count = u16_at(bytes, 6 + 4 * section).min((most - at) / WIDTH[section]);
+    for (section, width) in WIDTH.into_iter().enumerate() {
+        let count = u16_at(bytes, 6 + 4 * section).min((most - at) / width);
         put(bytes, 4 + 4 * section, at);
         put(bytes, 6 + 4 * section, count);
-        at += count * WIDTH[section];
+        at += count * width;
     }
     put(bytes, 0, at);
     at
