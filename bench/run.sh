@@ -1,10 +1,35 @@
 #!/bin/sh
-# Speed of the archive beside the second program, then the stack that each of its functions uses. On an idle machine.
+# Times the archive beside the second program and measures its stack, on an idle machine. Prints one table, and writes it to
+# bench/results.md (or to the file that is named) with the machine and the commit.
 set -eu
 cd "$(dirname "$0")/.."
 : "${CARGO_TARGET_DIR:=$PWD/build/cargo}"
 export CARGO_TARGET_DIR
+to=${1:-bench/results.md}
 cargo build --offline --release --quiet --manifest-path bench/Cargo.toml
-"$CARGO_TARGET_DIR/release/bench"
-echo
-tests/host/stack.sh
+mkdir -p build
+tests/host/stack.sh > build/stack.log || true # over a limit: it says so, and the gate refuses it
+commit=$(git log -1 --format='%h of %cs')
+git diff --quiet HEAD -- . ':!bench/results.md' || commit="$commit, with changes"
+{
+    cat <<END
+# Speed and stack
+
+Written by \`make bench\`. Both sides in one run, in turn, medians; every table keeps every rule and every finding is accepted, so that the
+whole check runs. *archive* is the proved code, *second* the second program (\`tests/second\`, plain Rust, built for release), *ratio* the one
+by the other.
+
+- Machine: $(sed -n 's/^model name[^:]*: //p' /proc/cpuinfo | sort -u | head -n 1), $(nproc) cores, $(awk '/^MemTotal/ { printf "%.0f GiB", $2 / 1048576 }' /proc/meminfo), $(uname -sm)
+- Commit: $commit
+- Built by: $(rt version), $(rustc --version)
+- Load when it began: $(cut -d' ' -f1 /proc/loadavg)
+
+END
+    "$CARGO_TARGET_DIR/release/bench"
+    echo
+    echo "Stack, measured on a painted stack by \`tests/host/stack.c\`:"
+    echo
+    sed -n 's/^stack: /- /p' build/stack.log
+} > build/bench.md
+cp build/bench.md "$to"
+cat "$to"

@@ -1,6 +1,6 @@
-/* A host: host MODEL TABLE [FINDING]. Prints answer, place, second place and the symbol's name for each check.
-   cc -DPLAITCRUMB_FINDINGS host.c -Iinclude build/libplaitcrumb.a; without the macro where the archive has no finding check */
-#include "plaitcrumb.h"
+/* A host. host MODEL TABLE [FINDING] prints answer, place, second place and the symbol's name, a line for each check.
+   cc host.c $(pkg-config --cflags --libs plaitcrumb) -o host */
+#include <plaitcrumb.h>
 #include <stdio.h>
 #include <stdlib.h>
 
@@ -8,10 +8,9 @@ static uint8_t model[65536], bytes[65536]; /* one more than the longest, so that
 
 static size_t read_file(const char *path, uint8_t *to) {
     FILE *file = fopen(path, "rb");
-    if (!file)
+    size_t length = file ? fread(to, 1, 65536, file) : 0;
+    if (!file || fclose(file))
         exit((perror(path), 2));
-    size_t length = fread(to, 1, 65536, file);
-    fclose(file);
     return length;
 }
 
@@ -31,12 +30,10 @@ int main(int argc, char **argv) {
     if (!work)
         return 2;
     print(plaitcrumb_check_table(model, model_len, bytes, bytes_len, work, nodes), model_len);
-#ifdef PLAITCRUMB_FINDINGS
     if (argc > 3) {
         bytes_len = read_file(argv[3], bytes);
         print(plaitcrumb_check_finding(model, model_len, bytes, bytes_len, work, nodes, work + nodes, symbols), model_len);
     }
-#endif
     free(work);
     return 0;
 }

@@ -1,7 +1,8 @@
 /*
  * plaitcrumb.h - checks on encoded Kconfig models, from C
  *
- *     cc host.c -Iinclude build/libplaitcrumb.a
+ *     cc host.c -Iinclude build/libplaitcrumb.a                in the repository
+ *     cc host.c $(pkg-config --cflags --libs plaitcrumb)       once it is installed
  *
  * There are three calls:
  *

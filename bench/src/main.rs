@@ -1,6 +1,7 @@
 //! The time of the archive beside that of the second program, both built for
-//! release, in one run: large tables that keep every rule, so that the whole
-//! check runs; the growth with the length; and the largest clearances.
+//! release, in one run, as one table in Markdown: large tables that keep every
+//! rule, so that the whole check runs; the growth with the length; and the
+//! largest clearances.
 
 mod shapes;
 
@@ -101,19 +102,20 @@ fn name(model: &[u8], symbol: usize) -> Times {
 /// Prints one line of the table.
 fn line(what: &str, counts: [usize; 8], bytes: usize, times: &Times) {
     let [symbols, nodes, defaults, selects, ..] = counts;
-    let ratio = times.archive / times.second;
+    let (ratio, per_byte) = (times.archive / times.second, times.archive * 1e3 / bytes as f64);
     println!(
-        "{what:34} {symbols:7} {selects:7} {defaults:8} {nodes:6} {bytes:6} {:11.1} {:11.1} {ratio:7.2}",
+        "| {what:38} | {symbols:7} | {selects:7} | {defaults:8} | {nodes:5} | {bytes:5} | {:10.1} | {:9.1} | {ratio:5.2} | {per_byte:7.2} |",
         times.archive, times.second
     );
 }
 
-/// The heads of the columns.
+/// The heads of the columns, in Markdown.
 fn heads() {
     println!(
-        "{:34} {:>7} {:>7} {:>8} {:>6} {:>6} {:>11} {:>11} {:>7}",
-        "", "symbols", "selects", "defaults", "nodes", "bytes", "archive us", "second us", "ratio"
+        "| {:38} | symbols | selects | defaults | nodes | bytes | archive us | second us | ratio | ns/byte |",
+        ""
     );
+    println!("|{}|{}", "-".repeat(40), "---:|".repeat(9));
 }
 
 /// The table check on each shape, and the name call on the usual one.
@@ -132,7 +134,7 @@ fn tables() {
     let big = Big::new(&USUAL, SEED);
     let model = big.model();
     line(
-        "name of the last symbol of b",
+        "name call: the last symbol of b",
         big.sketch.counts(),
         model.len(),
         &name(&model, USUAL.symbols - 1),
@@ -142,47 +144,33 @@ fn tables() {
 /// The complete clearance of 13 booleans, alone and in a full book.
 fn findings() {
     if !FINDINGS {
-        println!("{NO_FINDINGS}");
+        println!("\n{NO_FINDINGS}");
         return;
     }
-    let books =
-        [("complete clearance", boolean_book()), ("the same, full book", full_boolean_book())];
+    let books = [("clearance", boolean_book()), ("clearance, full book", full_boolean_book())];
     for (what, sketch) in books {
         let model = sketch.bytes();
         let clearance = second::complete_clearance(&model, 0).expect("a complete clearance");
         let counts = sketch.counts();
-        let what = format!("{what}, {} bytes", clearance.len());
+        let what = format!("finding: {what}, {} bytes", clearance.len());
         line(&what, counts, model.len(), &finding(&model, &clearance, counts[1], counts[0]));
     }
 }
 
 /// The usual shape, smaller and larger.
 fn growth() {
-    println!(
-        "\n{:34} {:>7} {:>6} {:>11} {:>8} {:>11} {:>8}",
-        "growth of b", "symbols", "bytes", "archive us", "ns/byte", "second us", "ns/byte"
-    );
     for bytes in GROWTH {
         let big = Big::new(&USUAL.scaled(bytes), SEED);
         let (model, values) = (big.model(), big.table());
         assert_eq!(model.len(), bytes);
         let times = table(&model, &values, big.sketch.nodes.len());
-        let per_byte = |time: f64| time * 1e3 / bytes as f64;
-        println!(
-            "{:34} {:7} {bytes:6} {:11.1} {:8.2} {:11.1} {:8.2}",
-            "",
-            big.sketch.symbols.len(),
-            times.archive,
-            per_byte(times.archive),
-            times.second,
-            per_byte(times.second)
-        );
+        line(&format!("growth: b at {bytes} bytes"), big.sketch.counts(), bytes, &times);
     }
 }
 
 fn main() {
     heads();
     tables();
-    findings();
     growth();
+    findings();
 }

@@ -10,7 +10,7 @@ pub const FULL: usize = 65535;
 /// The shapes of the table check, by what they stand for.
 pub const SHAPES: [(&str, Shape); 5] = [
     (
-        "a: few selects",
+        "table: a: few selects",
         Shape {
             symbols: 1068,
             nodes: 600,
@@ -22,9 +22,9 @@ pub const SHAPES: [(&str, Shape); 5] = [
             naming: Naming::Real,
         },
     ),
-    ("b: the usual large book", USUAL),
+    ("table: b: the usual large book", USUAL),
     (
-        "c: more selects than symbols",
+        "table: c: more selects than symbols",
         Shape {
             symbols: 1450,
             nodes: 1000,
@@ -37,7 +37,7 @@ pub const SHAPES: [(&str, Shape); 5] = [
         },
     ),
     (
-        "d: the most selects",
+        "table: d: the most selects",
         Shape {
             symbols: 4000,
             nodes: 20,
@@ -50,7 +50,7 @@ pub const SHAPES: [(&str, Shape); 5] = [
         },
     ),
     (
-        "e: the most names",
+        "table: e: the most names",
         Shape {
             symbols: 6000,
             nodes: 20,

@@ -1,3 +1,4 @@
+# shellcheck shell=sh disable=SC2034
 # For the scripts that link the archive; they stand in the root of the repository when they read this.
 # lib: the archive (PLAITCRUMB_LIB, or build/libplaitcrumb.a). findings: the macro, where it has the finding check.
 # out: where programs are built (PLAITCRUMB_OUT, or build/tests).

@@ -1,6 +1,7 @@
 #!/bin/sh
 # The archive from C: the header alone, the host under the sanitizers, the stack, and what the archive needs and holds.
-# Every part is run; the end is non-zero if one failed.
+# Every part is run; the end is non-zero if one failed. The parts are called through `part`:
+# shellcheck disable=SC2317
 set -eu
 cd "$(dirname "$0")/../.."
 . tests/host/archive.sh
@@ -8,12 +9,17 @@ strict="-Wall -Wextra -Wpedantic -Werror"
 status=0
 part() { if "$@"; then :; else echo "FAILED: $*" >&2; status=1; fi; }
 
-# The header is C99 and C++.
+# The header alone is C99 and C++98 without a warning, for every compiler that is here.
 header() {
-    printf '#include "plaitcrumb.h"\nint main(void) { return 0; }\n' > "$out/header.c"
-    # shellcheck disable=SC2086
-    gcc -std=c99 $strict -Iinclude -fsyntax-only "$out/header.c" &&
-        g++ -x c++ -std=c++98 $strict -Iinclude -fsyntax-only "$out/header.c"
+    echo '#include <plaitcrumb.h>' > "$out/header.c"
+    by=
+    for compiler in "gcc -std=c99" "g++ -x c++ -std=c++98" "clang -std=c99" "clang++ -x c++ -std=c++98" "clang++ -x c++ -std=c++17"; do
+        command -v "${compiler%% *}" > /dev/null || continue
+        # shellcheck disable=SC2086
+        $compiler $strict -Wshadow -Wconversion -Wsign-conversion -Iinclude -fsyntax-only "$out/header.c" || return 1
+        by="$by${by:+, }$compiler"
+    done
+    echo "header: alone and without a warning by $by"
 }
 
 # Good and bad bytes. Rounds of random bytes: the first word, or 30,000.
@@ -47,4 +53,5 @@ part header
 part host "$@"
 part tests/host/stack.sh
 part contents
+part tests/host/install.sh
 exit "$status"

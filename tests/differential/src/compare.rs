@@ -3,6 +3,12 @@
 use crate::archive;
 use second::cases::{hex, Case, FINDING, NAME, PROGRAM};
 use second::Answer;
+use std::sync::atomic::{AtomicU32, Ordering};
+
+/// The answer that the judge is made blind to: it says 0 in its place. None
+/// but for the self-test, which sees to it that a wrong judge is found out.
+static BLIND_TO: AtomicU32 = AtomicU32::new(NONE);
+const NONE: u32 = u32::MAX;
 
 /// The bytes kept free on each side of what is lent.
 const MARGIN: usize = 32;
@@ -70,6 +76,19 @@ pub fn compare(case: &Case) -> Result<Option<u32>, Difference> {
     }
 }
 
+/// Makes the judge of all later comparisons blind to an answer, or right again.
+pub fn blind_the_judge(answer: Option<u32>) {
+    BLIND_TO.store(answer.unwrap_or(NONE), Ordering::Relaxed);
+}
+
+/// The second program's answer, as the judge says it.
+fn judged(answer: Answer) -> Answer {
+    if answer.number == BLIND_TO.load(Ordering::Relaxed) {
+        return Answer::KEPT;
+    }
+    answer
+}
+
 /// Whether the two sides differ on a case.
 pub fn differs(case: &Case) -> bool {
     compare(case).is_err()
@@ -92,11 +111,11 @@ fn check(case: &Case) -> Result<Option<u32>, Difference> {
     };
     let mut their_nodes = case.node_work.clone();
     let mut their_symbols = case.symbol_work.clone();
-    let theirs = if case.kind == FINDING {
+    let theirs = judged(if case.kind == FINDING {
         second::check_finding(&case.model, &case.second, &mut their_nodes, &mut their_symbols)
     } else {
         second::check_table(&case.model, &case.second, &mut their_nodes)
-    };
+    });
     let inputs_kept = model.kept(&case.model) && bytes.kept(&case.second);
     let outside_kept = nodes.margins_kept() && symbols.margins_kept();
     let alike = ours == theirs

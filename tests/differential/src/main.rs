@@ -2,22 +2,28 @@
 //!
 //! usage: differential [COUNT [SEED]]
 //!        differential case HEX
+//!        differential docs FOLDER DOCUMENT..
+//!        differential self-test
 //!
 //! COUNT cases of SEED (or N and SEED of the environment; else 100,000 of seed
 //! 1), three neighbours of each, some large books and every named case go
 //! through both. Answer, place, second place, names, and every byte of both
 //! rooms must be the same, and nothing else may be written to. A difference is
 //! shrunk and printed as a case of the protocol in hex, which `case` runs again.
+//! `docs` runs the byte examples of documents, on the files of a folder;
+//! `self-test` sees to it that a judge which is wrong on purpose is found out.
 
 use differential::archive::{FINDINGS, NO_FINDINGS};
 use differential::big::{self, Big, Shape};
-use differential::compare::{compare, differs, Difference};
-use differential::shrink::shrunk;
-use second::cases::{hex, Case, NAME};
+use differential::compare::{compare, differs};
+use differential::show::{from_hex, show, KINDS};
+use differential::{docs, selftest};
+use second::cases::{Case, NAME};
 use second::gen::dice::Dice;
 use second::gen::{self, Which};
 use second::named;
 use std::collections::BTreeMap;
+use std::path::Path;
 use std::process::ExitCode;
 use std::time::Instant;
 
@@ -31,15 +37,20 @@ const LARGE_CASES: usize = 16;
 /// The differences shown before the run is given up.
 const SHOWN: usize = 3;
 
-/// The words for the kinds of cases.
-const KINDS: [&str; 4] = ["table", "finding", "name", "program"];
+/// The seed of the self-test.
+const SELF_TEST: u64 = 11;
 
 fn main() -> ExitCode {
     let words: Vec<String> = std::env::args().skip(1).collect();
-    if let [word, text] = &words[..] {
-        if word == "case" {
-            return one_case(text);
+    match &words[..] {
+        [word, text] if word == "case" => return one_case(text),
+        [word, folder, documents @ ..] if word == "docs" => {
+            return ExitCode::from(u8::from(!docs::all(documents, Path::new(folder))));
         }
+        [word] if word == "self-test" => {
+            return ExitCode::from(u8::from(!selftest::run(|index| generated(SELF_TEST, index))));
+        }
+        _ => {}
     }
     let number = |word: usize, variable: &str, usual: u64| {
         let text = words.get(word).cloned().or_else(|| std::env::var(variable).ok());
@@ -48,7 +59,9 @@ fn main() -> ExitCode {
     let (Some(count), Some(seed), true) =
         (number(0, "N", 100_000), number(1, "SEED", 1), words.len() <= 2)
     else {
-        eprintln!("usage: differential [COUNT [SEED]] | differential case HEX");
+        eprintln!(
+            "usage: differential [COUNT [SEED]] | case HEX | docs FOLDER DOCUMENT.. | self-test"
+        );
         return ExitCode::from(2);
     };
     let mut run = Run::default();
@@ -195,43 +208,9 @@ fn label(kind: u32, answer: u32) -> String {
     }
 }
 
-/// Shows a difference, and the smallest case found that still has one.
-fn show(case: &Case, difference: &Difference) {
-    println!("DIFFERENCE in {} ({} + {} bytes)", case.name, case.model.len(), case.second.len());
-    println!("  archive: {}", cut(&difference.archive));
-    println!("  second:  {}", cut(&difference.second));
-    let small = shrunk(case);
-    let Err(left) = compare(&small) else {
-        println!("  it comes and goes: the same case did not differ again");
-        return;
-    };
-    println!("  shrunk to {} + {} bytes", small.model.len(), small.second.len());
-    println!("  model   {}", cut(&hex(&small.model)));
-    println!("  {:7} {}", KINDS[small.kind as usize], cut(&hex(&small.second)));
-    println!("  archive: {}", cut(&left.archive));
-    println!("  second:  {}", cut(&left.second));
-    let mut bytes = Vec::new();
-    small.write(&mut bytes);
-    println!("  case {}", hex(&bytes));
-}
-
-/// A long line, cut.
-fn cut(line: &str) -> String {
-    match line.char_indices().nth(400) {
-        Some((at, _)) => format!("{}... ({} in all)", &line[..at], line.len()),
-        None => line.to_string(),
-    }
-}
-
 /// Runs one case of the protocol, given in hex.
 fn one_case(text: &str) -> ExitCode {
-    let digits: Option<Vec<u8>> = text.chars().map(|c| Some(c.to_digit(16)? as u8)).collect();
-    let bytes: Vec<u8> = digits
-        .unwrap_or_default()
-        .chunks(2)
-        .map(|pair| pair[0] << 4 | pair[pair.len() - 1])
-        .collect();
-    let Some((case, _)) = Case::read(&bytes) else {
+    let Some(case) = from_hex(text) else {
         eprintln!("these bytes are no case");
         return ExitCode::from(2);
     };

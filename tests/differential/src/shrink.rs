@@ -1,8 +1,9 @@
 //! Makes a case on which the two sides differ smaller, while they differ.
 
 use crate::compare::differs;
+use crate::refs;
 use second::book::{u16_at, WIDTH};
-use second::cases::Case;
+use second::cases::{Case, FINDING};
 use std::time::{Duration, Instant};
 
 /// How many smaller cases are tried in all, and for how long.
@@ -13,7 +14,7 @@ const LONGEST: Duration = Duration::from_secs(8);
 type Bytes = fn(&mut Case) -> &mut Vec<u8>;
 
 /// The head of a book.
-const HEAD: usize = 36;
+pub(crate) const HEAD: usize = 36;
 
 /// A smaller case on which the two sides still differ.
 pub fn shrunk(case: &Case) -> Case {
@@ -47,6 +48,8 @@ impl Shrinking {
     fn round(&mut self) -> bool {
         let mut smaller = self.shorter_rooms();
         smaller |= self.fewer_records();
+        smaller |= self.fewer_splits();
+        smaller |= self.shorter_names();
         if self.case.model.len() < 500 {
             smaller |= self.cut_pieces(|case| &mut case.model);
         }
@@ -76,8 +79,8 @@ impl Shrinking {
         smaller
     }
 
-    /// The model without some records, from half of a section down to one; the
-    /// last symbols go from the table too.
+    /// The model without some records, from half of a section down to one, and
+    /// whatever counts by them brought down too; then as it is without that.
     fn fewer_records(&mut self) -> bool {
         let mut smaller = false;
         for section in (0..8).rev() {
@@ -89,14 +92,48 @@ impl Shrinking {
                     let Some(model) = without_records(&self.case.model, section, end, many) else {
                         break;
                     };
-                    let mut other = Case { model, ..self.case.clone() };
-                    if section == 0 {
-                        (0..many).for_each(|_| other.second = without_last_entry(&other.second));
-                    }
-                    smaller |= self.take(other);
+                    let plain = Case { model, ..self.case.clone() };
+                    let mut fitting = plain.clone();
+                    refs::lowered(&mut fitting, section, end, many);
+                    smaller |= self.take(fitting) || self.take(plain);
                 }
                 many /= 2;
             }
+        }
+        smaller
+    }
+
+    /// A clearance with a split replaced by one of its subtrees.
+    fn fewer_splits(&mut self) -> bool {
+        let mut smaller = false;
+        let mut at = 4;
+        while is_clearance(&self.case) && at < self.case.second.len() && self.tries > 0 {
+            let parts = refs::subtrees(&self.case.model, &self.case.second, at);
+            let took = parts.iter().any(|part| {
+                let mut other = self.case.clone();
+                let subtree = other.second[part.clone()].to_vec();
+                other.second.splice(at..parts[parts.len() - 1].end, subtree);
+                self.take(other)
+            });
+            smaller |= took;
+            at += if took { 0 } else { 1 };
+        }
+        smaller
+    }
+
+    /// Names of one byte, of two, or of half the length.
+    fn shorter_names(&mut self) -> bool {
+        let mut smaller = false;
+        for symbol in 0..count(&self.case.model, 0) {
+            let at = u16_at(&self.case.model, 4) + 8 * symbol + 1;
+            let length = self.case.model.get(at).copied().unwrap_or(0);
+            smaller |= [1, 2, length / 2].into_iter().any(|shorter| {
+                let mut other = self.case.clone();
+                shorter < length && {
+                    other.model[at] = shorter;
+                    self.take(other)
+                }
+            });
         }
         smaller
     }
@@ -140,7 +177,7 @@ impl Shrinking {
 }
 
 /// How many records a section says it has.
-fn count(model: &[u8], section: usize) -> usize {
+pub(crate) fn count(model: &[u8], section: usize) -> usize {
     if model.len() < HEAD {
         return 0;
     }
@@ -164,27 +201,13 @@ fn without_records(model: &[u8], section: usize, from: usize, many: usize) -> Op
     Some(out)
 }
 
-/// The table without its last entry, as far as its contents can be read.
-fn without_last_entry(table: &[u8]) -> Vec<u8> {
-    let mut out = table.to_vec();
-    if table.len() < 8 || u16_at(table, 2) == 0 || 4 + 4 * u16_at(table, 2) > table.len() {
-        return out;
-    }
-    let entries = u16_at(table, 2);
-    let length = usize::from(table[4 * entries + 1]);
-    out.truncate(table.len().saturating_sub(length).max(4 + 4 * entries));
-    out.drain(4 * entries..4 + 4 * entries);
-    for entry in 0..entries - 1 {
-        lower(&mut out, 6 + 4 * entry, 4);
-    }
-    lower(&mut out, 2, 1);
-    let total = out.len() as u16;
-    out[..2].copy_from_slice(&total.to_le_bytes());
-    out
+/// Whether a case has a finding that is a clearance.
+pub(crate) fn is_clearance(case: &Case) -> bool {
+    case.kind == FINDING && case.second.len() >= 4 && case.second[2] == 1
 }
 
 /// Lowers the number of two bytes at a place.
-fn lower(bytes: &mut [u8], at: usize, by: usize) {
+pub(crate) fn lower(bytes: &mut [u8], at: usize, by: usize) {
     let number = (u16_at(bytes, at) as u16).wrapping_sub(by as u16);
     bytes[at..at + 2].copy_from_slice(&number.to_le_bytes());
 }
