@@ -196,16 +196,24 @@ static inline size_t deep_clearance(uint8_t *finding, unsigned depth, unsigned f
     return w.at;
 }
 
-/* A model of 64 booleans with prompt y, the first selecting the second, for the deep clearance alone. */
-static inline size_t small_deep_book(uint8_t *model) {
-    static const unsigned counts[8] = {64, 2, 0, 1, 0, 0, 0, 128};
+/*
+ * A model of 64 booleans with prompt y, the first selecting the second, for the deep clearance alone. The select's condition is
+ * so many nots over an equality of an int and a hex, which are both spelled out.
+ */
+static inline size_t small_deep_book(uint8_t *model, unsigned nots) {
+    const unsigned counts[8] = {64, 5 + nots, 0, 1, 0, 0, 0, 128};
     struct writer w = {model, 0};
     put_contents(&w, NONE, counts);
     for (unsigned s = 0; s < 64; s++)
         put_symbol(&w, 0, 2 * s, 2, 1);
     put_node(&w, 0, 0, 0);
     put_node(&w, 0, 2, 0);
-    put_three(&w, 0, 1, 1);
+    put_node(&w, 3, 0, 0x8000);
+    put_node(&w, 4, 0xffff, 0xffff);
+    put_node(&w, 8, 2, 3);
+    for (unsigned n = 0; n < nots; n++)
+        put_node(&w, 5, 4 + n, 0);
+    put_three(&w, 0, 1, 4 + nots);
     for (unsigned s = 0; s < 64; s++) {
         put1(&w, 'A' + s / 26);
         put1(&w, 'A' + s % 26);

@@ -97,7 +97,7 @@ int main(void) {
 
 #ifdef PLAITCRUMB_FINDINGS
     static const unsigned leaves[7][2] = {{20, 0}, {11, 7}, {12, 9}, {13, 7}, {18, 6}, {15, 0}, {17, 0}};
-    size_t deep_len = small_deep_book(deep);
+    size_t deep_len = small_deep_book(deep, 0);
     memcpy(finding + 4, table_of_w, W_TABLE);
     set_input(w_bytes, sizeof W, finding, 4 + W_TABLE);
     show("finding check, worked model, witness", finding_call);
@@ -106,6 +106,13 @@ int main(void) {
     show("finding check, full book, witness", finding_call);
     set_input(deep, deep_len, finding, deep_clearance(finding, 64, 0, 2, 20, 0));
     show("finding check, 64 splits on a small book", finding_call);
+    for (unsigned nots = 1; nots <= 64; nots *= 2) {
+        char what[60];
+        deep_len = small_deep_book(deep, nots);
+        set_input(deep, deep_len, finding, deep_clearance(finding, 64, 0, 2, 20, 0));
+        sprintf(what, "finding check, 64 splits, %u nots over an equality", nots);
+        show(what, finding_call);
+    }
     for (int i = 0; i < 7; i++) {
         char what[60];
         set_input(full, full_len, finding, deep_clearance(finding, 64, 6, 3, leaves[i][0], leaves[i][1]));
