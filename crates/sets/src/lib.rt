@@ -20,7 +20,7 @@ use spell::Leaf;
 use tri::Tri;
 
 // How deep a node's operands are followed before all nodes below are worked out in order instead.
-const DEPTH: usize = 4;
+const DEPTH: usize = 8;
 
 // Whether a set has a value.
 pub fn has(a: u8, v: u8) -> bool
