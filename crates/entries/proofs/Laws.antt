@@ -5,7 +5,7 @@ use mathlib.Core.List.{List}
 use Prim.Native.Nat.{ℕ, zero, suc, _+_, _-_, _*_, _≤_, _<_}
 use native.Mathlib.Omega.{arith}
 use lib.IntN.{ℤ, pos, negsuc}
-use lib.Dec.{ltb}
+use lib.Dec.{eqb, ltb}
 use mir.Syntax.{w32}
 use mir.Val.{toZ, ofZ, SFits}
 use mir.ValLaws.{toZ-ofZ}
@@ -92,7 +92,18 @@ module _ (t : List ℕ) (n s : ℕ) {e : Entry} (ee : e ≡ entryOf t n s) where
       by true h = absurd (not-refused (readOf t s) (sym h))
       by false h = refl
 
--- AS ONE OF THE THREE
-pub three-is : (t : List ℕ) (s : ℕ) {v w : Value} {x : ℕ} → v ≡ readOf t s → v ≡ w → x ≡ threeIn (contentIn t w) → x ≡ valueOf t s
-unfolding valueOf contentOf
-three-is t s ev ew ex = rw (← ev, ew) ex
+-- AS ONE OF THE THREE: an entry of another kind is n
+others : (t : List ℕ) (a b c : Bool) (at l : ℕ) (z : ℤ) (h : ℕ) → 0 ≡ threeIn (contentIn t (pick a (Text at l) (pick b (Int z) (pick c (Hex h) (Three 0)))))
+others t true b c at l z h = refl
+others t false true c at l z h = refl
+others t false false true at l z h = refl
+others t false false false at l z h = refl
+
+module _ (t : List ℕ) (s : ℕ) where
+  pub three-is : {v : ℕ} → Three v ≡ readOf t s → v ≡ valueOf t s
+  unfolding valueOf contentOf
+  three-is e = rw (← e)
+
+  pub three-other : {n k : ℕ} → n ≡ entries t → s < n → k ≡ kindOf t s → (k ≡ 0 → ⊥) → 0 ≡ valueOf t s
+  unfolding valueOf contentOf readOf
+  three-other {n} {k} en lt ek z = rw (← en, lt-ltb s n lt, ← ek, ne-eqb k 0 z) (others t (eqb k 1) (eqb k 2) (eqb k 3) _ _ _ _)

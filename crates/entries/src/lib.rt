@@ -132,12 +132,13 @@ pub fn three(t: &[u8], s: usize) -> Tri
     requires { ⌜ s < 2 ^ 32 ⌝ }
     ensures { λ r. ⌜ r .v ≡ valueOf (now (t .entry)) s ⌝ }
 {
-    let v = value(t, s);
-    match v {
-        Value::Three(x) => Tri { v: x },
-        Value::Text(_, _) => Tri::N,
-        Value::Int(_) => Tri::N,
-        Value::Hex(_) => Tri::N,
+    if entries(t) <= s {
+        return Tri::N;
+    }
+    let k = kind(t, s);
+    match k {
+        0 => Tri::of(raw::byte(t, start(t, s))),
+        _ => Tri::N,
     }
 }
 

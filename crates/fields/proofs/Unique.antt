@@ -86,6 +86,10 @@ use Rattle.fields.proofs.is_leaf.Kinds as is-leaf-kinds
 use Rattle.fields.proofs.is_leaf.Reads as is-leaf-reads
 use Rattle.fields.proofs.name_start.Kinds as name-start-kinds
 use Rattle.fields.proofs.name_start.Reads as name-start-reads
+use Rattle.fields.proofs.target_from.Kinds as target-from-kinds
+use Rattle.fields.proofs.target_from.Reads as target-from-reads
+use Rattle.fields.proofs.default_symbol_from.Kinds as default-symbol-from-kinds
+use Rattle.fields.proofs.default_symbol_from.Reads as default-symbol-from-reads
 use Rattle.fields.proofs.spelled_name.Kinds as spelled-name-kinds
 use Rattle.fields.proofs.spelled_name.Reads as spelled-name-reads
 
@@ -214,6 +218,12 @@ is-leaf-once κs a x y s t p q = p ∙ sym q
 
 pub name-start-once : Once 1 name-start-kinds.ps name-start-kinds.r name-start-reads.Post
 name-start-once κs a x y s t p q = p .0 ∙ sym (q .0)
+
+pub target-from-once : Once 1 target-from-kinds.ps target-from-kinds.r target-from-reads.Post
+target-from-once κs a x y s t p q = p .0 ∙ sym (q .0)
+
+pub default-symbol-from-once : Once 1 default-symbol-from-kinds.ps default-symbol-from-kinds.r default-symbol-from-reads.Post
+default-symbol-from-once κs a x y s t p q = p .0 ∙ sym (q .0)
 
 pub spelled-name-once : OnceIn 1 spelled-name-kinds.ps spelled-name-kinds.r spelled-name-reads.Post (λ κs x s. now x)
 spelled-name-once κs a x y s t p q = p ∙ sym q

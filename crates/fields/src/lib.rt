@@ -200,6 +200,14 @@ pub fn default_symbol(m: &[u8], i: usize) -> usize
     half_in(m, 3, 6, i, 0)
 }
 
+// The symbol that a default is on, where the defaults' start is at hand.
+pub fn default_symbol_from(m: &[u8], defaults: usize, i: usize) -> usize
+    requires { ⌜ (defaults ≡ startOf (now m) 3) × (defaults < 65536) × (i < 2 ^ 32) ⌝ }
+    ensures { λ r. ⌜ (r ≡ defaultSymbol (now (m .entry)) i) × (r < 65536) ⌝ }
+{
+    raw::half(m, defaults + i * 6)
+}
+
 // A default's value node.
 pub fn default_value(m: &[u8], i: usize) -> usize
     requires { ⌜ i < 2 ^ 32 ⌝ }
@@ -230,6 +238,14 @@ pub fn target_of(m: &[u8], i: usize) -> usize
     ensures { λ r. ⌜ (r ≡ targetOf (now (m .entry)) i) × (r < 65536) ⌝ }
 {
     half_in(m, 4, 6, i, 2)
+}
+
+// A select's target, where the selects' start is at hand.
+pub fn target_from(m: &[u8], selects: usize, k: usize) -> usize
+    requires { ⌜ (selects ≡ startOf (now m) 4) × (selects < 65536) × (k < 2 ^ 32) ⌝ }
+    ensures { λ r. ⌜ (r ≡ targetOf (now (m .entry)) k) × (r < 65536) ⌝ }
+{
+    raw::half(m, selects + k * 6 + 2)
 }
 
 // A select's condition node.

@@ -19,6 +19,11 @@ pub half-past : (s : List ℕ) (i : ℕ) → length s ≤ i → half s i ≡ 0
 unfolding half
 half-past s i h = rw (past s i h, past s (i + 1) (omega arith))
 
+-- one byte is left
+pub half-end : (s : List ℕ) (i : ℕ) → length s ≤ i + 1 → half s i ≡ getD s i 0
+unfolding half
+half-end s i h = rw (past s (i + 1) h) (omega arith)
+
 pub word-past : (s : List ℕ) (i : ℕ) → length s ≤ i → word s i ≡ 0
 unfolding word
 word-past s i h = rw (half-past s i h, half-past s (i + 2) (omega arith))

@@ -33,10 +33,13 @@ fn joined(low: u8, high: u8) -> usize
 pub fn half(s: &[u8], i: usize) -> usize
     ensures { λ r. ⌜ (r ≡ halfOf (now (s .entry)) i) × (r < 65536) ⌝ }
 {
-    if s.len() <= i {
-        return 0;
+    if s.len() < 2 {
+        return wide(byte(s, i));
     }
-    joined(s[i], byte(s, i + 1))
+    if i < s.len() - 1 {
+        return joined(s[i], s[i + 1]);
+    }
+    wide(byte(s, i))
 }
 
 // Two halves as a number, the lower first.

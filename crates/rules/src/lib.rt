@@ -28,14 +28,7 @@ fn types_fault(m: &[u8], t: &[u8]) -> Outcome
 fn symbols_fault(m: &[u8], t: &[u8], vs: &[u8]) -> Outcome
     ensures { λ r. ⌜ r ≡ firstBelow (symbolFault (now (m .entry)) (now (t .entry)) (now (vs .entry))) (symbolsOf (now (m .entry))) ⌝ }
 {
-    let n = fields::symbols(m);
-    for s in 0..n {
-        let at = symbol_rules::symbol_fault(m, t, vs, s);
-        if let Outcome::Fault(_, _, _) = at {
-            return at;
-        }
-    }
-    Outcome::Clean
+    blocks::fault(m, t, vs)
 }
 
 // 15 to 17, choice by choice.

@@ -16,8 +16,8 @@ use Rattle.meaning.specs.declared.Value.{Value}
 use Rattle.meaning.specs.Base.{when}
 use Rattle.meaning.specs.Book.{rangeSymbol, lowOf, highOf, rangeCondition}
 use Rattle.meaning.specs.Table.{Content, readOf, contentOf}
-use Rattle.meaning.specs.Values.{val, leafOf, promptValue, defaultContent}
-use Rattle.meaning.specs.Rules.{sameContent, intIs, hexIs, within, otherFault, test14}
+use Rattle.meaning.specs.Values.{val, leafOf, promptValue}
+use Rattle.meaning.specs.Rules.{sameContent, broken13Content, intIs, hexIs, within, test14}
 use Rattle.spell.specs.declared.Leaf.{Leaf}
 use Rattle.spell.specs.declared.Leaf.the-variants.{Three, Note, Text, Int, Hex}
 use Rattle.spell.specs.Leaves.{leafContent, leafOfValue}
@@ -59,13 +59,12 @@ within-leaf m t low high (Text at n) = refl
 within-leaf m t low high (Int z) = ap₂ _&&_ (int-leaf m t (λ a. leZ a z) low) (int-leaf m t (λ b. leZ z b) high)
 within-leaf m t low high (Hex h) = ap₂ _&&_ (hex-leaf m t (λ a. leb a h) low) (hex-leaf m t (λ b. leb h b) high)
 
--- RULE 13 of a string, int or hex
+-- RULE 13 of a string, int or hex, by its Default
 pub other-is :
     (m t vs : List ℕ) (s : ℕ) (v d : Leaf) {r : Outcome} {p : ℕ} {q : Bool} → r ≡ when (eqb p 0 && not q) (Fault 13 s 65535)
-    → p ≡ promptValue m vs s → q ≡ sameContent (leafContent m t v) (leafContent m t d)
-    → leafContent m t v ≡ contentOf t s → leafContent m t d ≡ defaultContent m t vs s → r ≡ otherFault m t vs s
-unfolding otherFault
-other-is m t vs s v d e ep eq ev ed = e ∙ rw (ep, eq, ev, ed)
+    → p ≡ promptValue m vs s → q ≡ sameContent (leafContent m t v) (leafContent m t d) → leafContent m t v ≡ contentOf t s
+    → r ≡ when (broken13Content (contentOf t s) (promptValue m vs s) (leafContent m t d)) (Fault 13 s 65535)
+other-is m t vs s v d e ep eq ev = e ∙ rw (ep, eq, ev)
 
 -- RULE 14 by a range on another symbol, and by one on s
 pub range-off : (m t vs : List ℕ) (s r : ℕ) {x : ℕ} → x ≡ rangeSymbol m r → (x ≡ s → ⊥) → Clean ≡ test14 m t vs s r

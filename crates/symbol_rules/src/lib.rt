@@ -5,10 +5,12 @@ ghost use mathlib.Core.Path.{_≡_};
 ghost use Prim.Native.Nat.{ℕ, _<_, _^_};
 ghost use lib.Dec.{leb};
 ghost use lib.Signed.{leZ};
-ghost use Rattle.meaning.specs.Base.{pick, firstBelow};
-ghost use Rattle.meaning.specs.Table.{contentIn, aThree, aText, anInt, aHex};
+ghost use Rattle.meaning.specs.declared.Outcome.the-variants.{Fault};
+ghost use Rattle.meaning.specs.Base.{pick, when, firstBelow};
+ghost use Rattle.meaning.specs.Table.{contentIn, contentOf, valueOf, aThree, aText, anInt, aHex};
+ghost use Rattle.meaning.specs.Values.{promptValue};
 ghost use Rattle.meaning.specs.Book.{ranges as rangesOf, threeType};
-ghost use Rattle.meaning.specs.Rules.{typeFits, sameContent, threeTests, test10, threeFault, otherFault, test14, symbolFault};
+ghost use Rattle.meaning.specs.Rules.{typeFits, sameContent, broken13Content, threeTests, test10, threeFault, otherFault, test14, symbolFault};
 ghost use Rattle.spell.specs.Leaves.{leafContent};
 ghost use Rattle.symbol_rules.specs.Leaves.{leafInt, leafHex, leafWithin};
 use meaning::Outcome;
@@ -54,16 +56,24 @@ fn three_tests(s: usize, v: Tri, p: Tri, d: Tri, low: Tri) -> Outcome
     raw::fault_if((p.v == 0) & (v.v != owed.v), 13, s, 65535)
 }
 
+// 11, 12 or 13 at s, a boolean or tristate symbol, by its Default and Lower.
+pub fn three_by(m: &[u8], t: &[u8], vs: &[u8], s: usize, d: Tri, low: Tri) -> Outcome
+    requires { ⌜ s < 65536 ⌝ }
+    ensures { λ r. ⌜ r ≡ threeTests s (valueOf (now (t .entry)) s) (promptValue (now (m .entry)) (now (vs .entry)) s) (d .v) (low .v) ⌝ }
+{
+    let v = entries::three(t, s);
+    let p = values::at(vs, fields::prompt_of(m, s));
+    three_tests(s, v, p, d, low)
+}
+
 // 11, 12 or 13 at s, a boolean or tristate symbol.
 fn three_fault(m: &[u8], t: &[u8], vs: &[u8], s: usize) -> Outcome
     requires { ⌜ s < 65536 ⌝ }
     ensures { λ r. ⌜ r ≡ threeFault (now (m .entry)) (now (t .entry)) (now (vs .entry)) s ⌝ }
 {
-    let v = entries::three(t, s);
-    let p = values::at(vs, fields::prompt_of(m, s));
     let d = values::default_three(m, vs, s);
     let low = values::lower(m, t, vs, s);
-    three_tests(s, v, p, d, low)
+    three_by(m, t, vs, s, d, low)
 }
 
 // Whether leaf b is the value v.
@@ -131,16 +141,23 @@ fn same_content(m: &[u8], t: &[u8], a: Leaf, b: Leaf) -> bool
     }
 }
 
+// 13 at s, a string, int or hex symbol, by its Default.
+pub fn other_by(m: &[u8], t: &[u8], vs: &[u8], s: usize, d: Leaf) -> Outcome
+    requires { ⌜ s < 65536 ⌝ }
+    ensures { λ r. ⌜ r ≡ when (broken13Content (contentOf (now (t .entry)) s) (promptValue (now (m .entry)) (now (vs .entry)) s) (leafContent (now (m .entry)) (now (t .entry)) d)) (Fault 13 s 65535) ⌝ }
+{
+    let v = spell::of_value(entries::value(t, s));
+    let p = values::at(vs, fields::prompt_of(m, s));
+    let bad = (p.v == 0) & !same_content(m, t, v, d);
+    raw::fault_if(bad, 13, s, 65535)
+}
+
 // 13 at s, a string, int or hex symbol.
 fn other_fault(m: &[u8], t: &[u8], vs: &[u8], s: usize) -> Outcome
     requires { ⌜ s < 65536 ⌝ }
     ensures { λ r. ⌜ r ≡ otherFault (now (m .entry)) (now (t .entry)) (now (vs .entry)) s ⌝ }
 {
-    let v = spell::of_value(entries::value(t, s));
-    let p = values::at(vs, fields::prompt_of(m, s));
-    let d = values::default_leaf(m, t, vs, s);
-    let bad = (p.v == 0) & !same_content(m, t, v, d);
-    raw::fault_if(bad, 13, s, 65535)
+    other_by(m, t, vs, s, values::default_leaf(m, t, vs, s))
 }
 
 // Whether leaf low is an int of at most z.
@@ -225,7 +242,7 @@ fn range_at(m: &[u8], t: &[u8], vs: &[u8], s: usize, r: usize) -> Outcome
 }
 
 // 14 at s: the first range on it that is broken.
-fn ranges_fault(m: &[u8], t: &[u8], vs: &[u8], s: usize) -> Outcome
+pub fn ranges_fault(m: &[u8], t: &[u8], vs: &[u8], s: usize) -> Outcome
     requires { ⌜ s < 65536 ⌝ }
     ensures { λ r. ⌜ r ≡ firstBelow (test14 (now (m .entry)) (now (t .entry)) (now (vs .entry)) s) (rangesOf (now (m .entry))) ⌝ }
 {

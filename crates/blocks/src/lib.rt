@@ -1,0 +1,155 @@
+// Rules 11 to 14 for all symbols, by blocks of 112.
+//
+// Total over any bytes: `vs` has the nodes' values. For each block one pass over the selects works out Lower of its symbols, one
+// over the ranges says which have any, one over the defaults finds the first of each that applies.
+ghost use mathlib.Core.Path.{_≡_};
+ghost use mathlib.Core.List.{[]};
+ghost use Prim.Native.Nat.{ℕ, _+_, _%_, _<_, _≤_};
+ghost use lib.Dec.{eqb, ltb};
+ghost use Rattle.tri.specs.Three.{orOf};
+ghost use Rattle.meaning.specs.declared.Outcome.the-variants.{Clean};
+ghost use Rattle.meaning.specs.Base.{pick, firstBelow};
+ghost use Rattle.meaning.specs.Book.{symbols as symbolsOf, ranges as rangesOf, defaultValue, threeType};
+ghost use Rattle.meaning.specs.Table.{aText};
+ghost use Rattle.meaning.specs.Values.{val, leafOf, given as givenOf, conditionValue, lowerOf};
+ghost use Rattle.meaning.specs.Rules.{threeFault, otherFault, symbolFault};
+ghost use Rattle.spell.specs.Leaves.{leafContent};
+ghost use Rattle.blocks.specs.Rows.{placeOf, firstDefault, chosen, Free};
+use meaning::Outcome;
+use spell::Leaf;
+use tri::Tri;
+
+// Where s stands in the block from base on; outside it, at the spare place.
+fn place(s: usize, base: usize) -> usize
+    requires { ⌜ (s < 65536) × (base < 65536) ⌝ }
+    ensures { λ r. ⌜ (r ≡ placeOf s base) × (r < 113) ⌝ }
+{
+    let i = (s + 65536 - base) % 65536;
+    if i < 112 { i } else { 112 }
+}
+
+// Lower so far of the symbol at place i, with select k added, which is on it.
+fn raised(m: &[u8], t: &[u8], vs: &[u8], k: usize, i: usize, low: u8) -> u8
+    requires { ⌜ k < 65536 ⌝ }
+    ensures { λ r. ⌜ r ≡ pick (eqb i 112) low (orOf low (givenOf (now (m .entry)) (now (t .entry)) (now (vs .entry)) k)) ⌝ }
+{
+    if i == 112 {
+        return low;
+    }
+    let old = Tri { v: low };
+    let new = old.or(values::given(m, t, vs, k));
+    new.v
+}
+
+// The first default so far of the symbol at place i, from the last default on, covered by d if that applies.
+fn covered(m: &[u8], vs: &[u8], d: usize, i: usize, later: u16) -> u16
+    requires { ⌜ d < 65535 ⌝ }
+    ensures { λ r. ⌜ r ≡ pick (eqb i 112) later (pick (ltb 0 (conditionValue (now (m .entry)) (now (vs .entry)) d)) (d + 1) later) ⌝ }
+{
+    if i == 112 {
+        return later;
+    }
+    let condition = values::at(vs, fields::default_condition(m, d));
+    if 0 < condition.v {
+        return (d + 1) as u16;
+    }
+    later
+}
+
+// Default of a boolean or tristate symbol, by its first default that applies.
+fn default_three(m: &[u8], vs: &[u8], first: u16) -> Tri
+    ensures { λ r. ⌜ r .v ≡ chosen (λ d. val (now (vs .entry)) (defaultValue (now (m .entry)) d)) 0 first ⌝ }
+{
+    if first == 0 {
+        return Tri::N;
+    }
+    values::at(vs, fields::default_value(m, (first as usize) - 1))
+}
+
+// Default of a string, int or hex symbol, by its first default that applies.
+fn default_leaf(m: &[u8], t: &[u8], first: u16) -> Leaf
+    ensures { λ r. ⌜ leafContent (now (m .entry)) (now (t .entry)) r ≡ chosen (λ d. leafOf (now (m .entry)) (now (t .entry)) (defaultValue (now (m .entry)) d)) (aText []) first ⌝ }
+{
+    if first == 0 {
+        return Leaf::Note(0, 0);
+    }
+    values::leaf(m, t, fields::default_value(m, (first as usize) - 1))
+}
+
+// 11, 12 and 13 of s by its type, its Lower and its first default that applies.
+fn own_fault(m: &[u8], t: &[u8], vs: &[u8], s: usize, low: u8, first: u16) -> Outcome
+    requires { ⌜ (s < 65536) × (low ≡ lowerOf (now m) (now t) (now vs) s) × (first ≡ firstDefault (now m) (now vs) s) ⌝ }
+    ensures { λ r. ⌜ r ≡ pick (threeType (now (m .entry)) s) (threeFault (now (m .entry)) (now (t .entry)) (now (vs .entry)) s) (otherFault (now (m .entry)) (now (t .entry)) (now (vs .entry)) s) ⌝ }
+{
+    if fields::is_three(m, s) {
+        return symbol_rules::three_by(m, t, vs, s, default_three(m, vs, first), Tri { v: low });
+    }
+    symbol_rules::other_by(m, t, vs, s, default_leaf(m, t, first))
+}
+
+// 11 to 14 at s, by its Lower, with 4 more where it has a range, and its first default that applies.
+fn symbol_fault(m: &[u8], t: &[u8], vs: &[u8], s: usize, low: u8, first: u16) -> Outcome
+    requires { ⌜ (s < 65536) × (low % 4 ≡ lowerOf (now m) (now t) (now vs) s) × (first ≡ firstDefault (now m) (now vs) s) × (low < 4 → Free (now m) (rangesOf (now m)) s) ⌝ }
+    ensures { λ r. ⌜ r ≡ symbolFault (now (m .entry)) (now (t .entry)) (now (vs .entry)) s ⌝ }
+{
+    let own = own_fault(m, t, vs, s, low % 4, first);
+    if let Outcome::Fault(_, _, _) = own {
+        return own;
+    }
+    if low < 4 {
+        return Outcome::Clean;
+    }
+    symbol_rules::ranges_fault(m, t, vs, s)
+}
+
+// 11 to 14 of the symbols below end, where those below base keep them and at most 112 are left.
+fn block_fault(m: &[u8], t: &[u8], vs: &[u8], base: usize, end: usize) -> Outcome
+    requires { ⌜ (base ≤ end) × (end ≤ base + 112) × (end < 65536) × (firstBelow (symbolFault (now m) (now t) (now vs)) base ≡ Clean) ⌝ }
+    ensures { λ r. ⌜ r ≡ firstBelow (symbolFault (now (m .entry)) (now (t .entry)) (now (vs .entry))) end ⌝ }
+{
+    let mut low = [0u8; 113];
+    let selects = fields::selects(m);
+    let selects_at = fields::start(m, 4);
+    for k in 0..selects {
+        let i = place(fields::target_from(m, selects_at, k), base);
+        low[i] = raised(m, t, vs, k, i, low[i]);
+    }
+    let ranges = fields::ranges(m);
+    for r in 0..ranges {
+        let i = place(fields::range_symbol(m, r), base);
+        low[i] = low[i] % 4 + 4;
+    }
+    let mut first = [0u16; 113];
+    let defaults = fields::defaults(m);
+    let defaults_at = fields::start(m, 3);
+    for j in 0..defaults {
+        let d = defaults - 1 - j;
+        let i = place(fields::default_symbol_from(m, defaults_at, d), base);
+        first[i] = covered(m, vs, d, i, first[i]);
+    }
+    for s in base..end {
+        let i = s - base;
+        let at = symbol_fault(m, t, vs, s, low[i], first[i]);
+        if let Outcome::Fault(_, _, _) = at {
+            return at;
+        }
+    }
+    Outcome::Clean
+}
+
+// 11 to 14, symbol by symbol.
+pub fn fault(m: &[u8], t: &[u8], vs: &[u8]) -> Outcome
+    ensures { λ r. ⌜ r ≡ firstBelow (symbolFault (now (m .entry)) (now (t .entry)) (now (vs .entry))) (symbolsOf (now (m .entry))) ⌝ }
+{
+    let n = fields::symbols(m);
+    let mut base: usize = 0;
+    while 112 < n - base {
+        let end = base + 112;
+        let at = block_fault(m, t, vs, base, end);
+        if let Outcome::Fault(_, _, _) = at {
+            return at;
+        }
+        base = end;
+    }
+    block_fault(m, t, vs, base, n)
+}
