@@ -76,6 +76,9 @@ fn section_fault(m: &[u8], k: usize) -> Outcome
     requires { ⌜ k < 16 ⌝ }
     ensures { λ r. ⌜ r ≡ sectionFault (now (m .entry)) k ⌝ }
 {
+    if k == 1 {
+        return names::fault(m);
+    }
     let n = fields::count(m, k);
     for i in 0..n {
         let at = record_at(m, k, i);

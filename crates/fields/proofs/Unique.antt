@@ -90,6 +90,12 @@ use Rattle.fields.proofs.target_from.Kinds as target-from-kinds
 use Rattle.fields.proofs.target_from.Reads as target-from-reads
 use Rattle.fields.proofs.default_symbol_from.Kinds as default-symbol-from-kinds
 use Rattle.fields.proofs.default_symbol_from.Reads as default-symbol-from-reads
+use Rattle.fields.proofs.name_length_from.Kinds as name-length-from-kinds
+use Rattle.fields.proofs.name_length_from.Reads as name-length-from-reads
+use Rattle.fields.proofs.name_offset_from.Kinds as name-offset-from-kinds
+use Rattle.fields.proofs.name_offset_from.Reads as name-offset-from-reads
+use Rattle.fields.proofs.name_from.Kinds as name-from-kinds
+use Rattle.fields.proofs.name_from.Reads as name-from-reads
 use Rattle.fields.proofs.spelled_name.Kinds as spelled-name-kinds
 use Rattle.fields.proofs.spelled_name.Reads as spelled-name-reads
 
@@ -224,6 +230,15 @@ target-from-once κs a x y s t p q = p .0 ∙ sym (q .0)
 
 pub default-symbol-from-once : Once 1 default-symbol-from-kinds.ps default-symbol-from-kinds.r default-symbol-from-reads.Post
 default-symbol-from-once κs a x y s t p q = p .0 ∙ sym (q .0)
+
+pub name-length-from-once : Once 1 name-length-from-kinds.ps name-length-from-kinds.r name-length-from-reads.Post
+name-length-from-once κs a x y s t p q = p ∙ sym q
+
+pub name-offset-from-once : Once 1 name-offset-from-kinds.ps name-offset-from-kinds.r name-offset-from-reads.Post
+name-offset-from-once κs a x y s t p q = p .0 ∙ sym (q .0)
+
+pub name-from-once : OnceIn 1 name-from-kinds.ps name-from-kinds.r name-from-reads.Post (λ κs x s. now x)
+name-from-once κs a x y s t p q = p ∙ sym q
 
 pub spelled-name-once : OnceIn 1 spelled-name-kinds.ps spelled-name-kinds.r spelled-name-reads.Post (λ κs x s. now x)
 spelled-name-once κs a x y s t p q = p ∙ sym q

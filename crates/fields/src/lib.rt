@@ -144,6 +144,21 @@ pub fn name_offset(m: &[u8], i: usize) -> usize
     half_in(m, 1, 8, i, 2)
 }
 
+// A name's length and offset, where the symbols' start is at hand.
+pub fn name_length_from(m: &[u8], symbols: usize, i: usize) -> u8
+    requires { ⌜ (symbols ≡ startOf (now m) 1) × (symbols < 65536) × (i < 2 ^ 32) ⌝ }
+    ensures { λ r. ⌜ r ≡ nameLength (now (m .entry)) i ⌝ }
+{
+    raw::byte(m, symbols + i * 8 + 1)
+}
+
+pub fn name_offset_from(m: &[u8], symbols: usize, i: usize) -> usize
+    requires { ⌜ (symbols ≡ startOf (now m) 1) × (symbols < 65536) × (i < 2 ^ 32) ⌝ }
+    ensures { λ r. ⌜ (r ≡ nameOffset (now (m .entry)) i) × (r < 65536) ⌝ }
+{
+    raw::half(m, symbols + i * 8 + 2)
+}
+
 // A symbol's prompt node.
 pub fn prompt_of(m: &[u8], i: usize) -> usize
     requires { ⌜ i < 2 ^ 32 ⌝ }
@@ -374,4 +389,13 @@ pub fn spelled_name(m: &[u8], s: usize) -> &[u8]
     ensures { λ r. ⌜ now r ≡ spelledName (now (m .entry)) s ⌝ }
 {
     raw::part(m, name_start(m, s), raw::wide(name_length(m, s)))
+}
+
+// The same, where the symbols' start and the texts' are at hand.
+pub fn name_from(m: &[u8], symbols: usize, texts: usize, s: usize) -> &[u8]
+    requires { ⌜ (symbols ≡ startOf (now m) 1) × (symbols < 65536) × (texts ≡ textStart (now m)) × (texts < 65536) × (s < 2 ^ 32) ⌝ }
+    ensures { λ r. ⌜ now r ≡ spelledName (now (m .entry)) s ⌝ }
+{
+    let n = raw::wide(name_length_from(m, symbols, s));
+    raw::part(m, texts + name_offset_from(m, symbols, s), n)
 }

@@ -5,6 +5,8 @@ use Rattle.records.proofs.member_due.Kinds as member-due-kinds
 use Rattle.records.proofs.member_due.Reads as member-due-reads
 use Rattle.records.proofs.member_ok.Kinds as member-ok-kinds
 use Rattle.records.proofs.member_ok.Reads as member-ok-reads
+use Rattle.records.proofs.symbol_fits.Kinds as symbol-fits-kinds
+use Rattle.records.proofs.symbol_fits.Reads as symbol-fits-reads
 use Rattle.records.proofs.record_ok.Kinds as record-ok-kinds
 use Rattle.records.proofs.record_ok.Reads as record-ok-reads
 
@@ -13,6 +15,9 @@ member-due-once κs a x y s t p q = p .0 ∙ sym (q .0)
 
 pub member-ok-once : Once 1 member-ok-kinds.ps member-ok-kinds.r member-ok-reads.Post
 member-ok-once κs a x y s t p q = p ∙ sym q
+
+pub symbol-fits-once : Once 1 symbol-fits-kinds.ps symbol-fits-kinds.r symbol-fits-reads.Post
+symbol-fits-once κs a x y s t p q = p ∙ sym q
 
 pub record-ok-once : Once 1 record-ok-kinds.ps record-ok-kinds.r record-ok-reads.Post
 record-ok-once κs a x y s t p q = p ∙ sym q

@@ -3,6 +3,9 @@
 // Total over any bytes. Each test is document 01's, by its definition; a record's number is below 2^32.
 ghost use mathlib.Core.Path.{_≡_};
 ghost use Prim.Native.Nat.{ℕ, _+_, _<_, _^_};
+ghost use mathlib.Core.Bool.{_&&_};
+ghost use lib.Dec.{leb, ltb};
+ghost use Rattle.meaning.specs.Book.{nodes as nodesOf, typeOf, promptOf, dependOf};
 ghost use Rattle.meaning.specs.Book.{isDigit, isNameByte, nameBytes, digitsAlone, otherName, newName, nameOk, symbolOk, leafFits, nodeFits};
 ghost use Rattle.meaning.specs.Book.{nodeOk, defaultOk, selectOk, boundOk, rangeOk, memberDue, choiceOk, newMember, memberOk, recordOk};
 
@@ -91,6 +94,18 @@ fn symbol_ok(m: &[u8], s: usize) -> bool
     (fields::type_of(m, s) <= 4)
         & name_ok(m, s)
         & new_name(m, s)
+        & (fields::prompt_of(m, s) < nodes)
+        & (fields::depend_of(m, s) < nodes)
+}
+
+// A symbol, whatever the names before it are.
+pub fn symbol_fits(m: &[u8], s: usize) -> bool
+    requires { ⌜ s < 2 ^ 32 ⌝ }
+    ensures { λ r. ⌜ r ≡ (leb (typeOf (now (m .entry)) s) 4 && nameOk (now (m .entry)) s && ltb (promptOf (now (m .entry)) s) (nodesOf (now (m .entry))) && ltb (dependOf (now (m .entry)) s) (nodesOf (now (m .entry)))) ⌝ }
+{
+    let nodes = fields::nodes(m);
+    (fields::type_of(m, s) <= 4)
+        & name_ok(m, s)
         & (fields::prompt_of(m, s) < nodes)
         & (fields::depend_of(m, s) < nodes)
 }
