@@ -222,19 +222,28 @@ fn block_fault(m: &[u8], base: usize, end: usize, new: bool) -> Outcome
     Outcome::Clean
 }
 
+// Where the block from base on ends.
+fn end_of(base: usize, n: usize) -> usize
+    requires { ⌜ (base < n) × (n < 65536) ⌝ }
+    ensures { λ r. ⌜ (base < r) × (r ≤ n) × (r ≤ base + 160) ⌝ }
+{
+    if n - base < 160 { n } else { base + 160 }
+}
+
 // 3: the first malformed symbol.
 pub fn fault(m: &[u8]) -> Outcome
     ensures { λ r. ⌜ r ≡ sectionFault (now (m .entry)) 1 ⌝ }
 {
     let n = fields::symbols(m);
     let mut base: usize = 0;
-    while 160 < n - base {
-        let end = base + 160;
-        let at = block_fault(m, base, end, fresh(m, base, 160));
+    while base < n {
+        let end = end_of(base, n);
+        let new = fresh(m, base, end - base);
+        let at = block_fault(m, base, end, new);
         if let Outcome::Fault(_, _, _) = at {
             return at;
         }
         base = end;
     }
-    block_fault(m, base, n, fresh(m, base, n - base))
+    Outcome::Clean
 }

@@ -3,7 +3,7 @@ use Rattle.meaning.proofs.First.{clean-none, block-fault}
 use Rattle.meaning.specs.Book.{recordAt, sectionFault}
 use Rattle.meaning.specs.Base.{firstBelow}
 use Rattle.meaning.specs.declared.Outcome.the-variants.{Clean}
-use Prim.Native.Nat.{_≤_, _+_, _-_}
+use Prim.Native.Nat.{_≤_, _-_}
 use native.Mathlib.Omega.{arith}
 use mathlib.Core.Path.{_≡_, refl, sym, _∙_, ap}
 use borrow.Author.Needs.{needs}
@@ -13,6 +13,7 @@ use Rattle.names.proofs.fault.Reads as reads
 use Rattle.names.proofs.fault.Lts as lts
 use Rattle.fields.proofs.symbols.Reads as symbols-reads
 use Rattle.names.proofs.block_fault.Reads as block-fault-reads
+use Rattle.names.proofs.end_of.Reads as end-of-reads
 use Rattle.names.proofs.fresh.Reads as fresh-reads
 
 abbrev Inv-loop : tie.InvT-loop
@@ -27,24 +28,24 @@ symbols-requires c κs = search needs
 loop-holds : tie.Need-loop-holds Inv-loop μ-loop
 loop-holds c = (omega arith, clean-none _)
 
-sub-loop : tie.Need-sub-loop Inv-loop μ-loop
-sub-loop c = search needs
+end-of-requires : tie.Need-end-of-requires Inv-loop μ-loop
+end-of-requires c κs = search needs
 
-add-end : tie.Need-add-end Inv-loop μ-loop
-add-end c = search needs
+sub-fresh : tie.Need-sub-fresh Inv-loop μ-loop
+sub-fresh c = search needs
 
 fresh-requires : tie.Need-fresh-requires Inv-loop μ-loop
 fresh-requires c κs = search needs
 
 block-fault-requires : tie.Need-block-fault-requires Inv-loop μ-loop
-block-fault-requires c κs = (omega arith, omega arith, c .before .before .loop .inv .1, c .fresh .ensures)
+block-fault-requires c κs = (omega arith, omega arith, c .before .before .before .loop .inv .1, λ e s l h. c .fresh .ensures e s l (omega arith))
 
 enum-told : tie.Need-enum-told Inv-loop μ-loop
 enum-told c = search needs
 
 returns : tie.Need-returns Inv-loop μ-loop
 unfolding sectionFault
-returns c = rw (c .before .before .before .before .before .before .symbols .ensures .0) at (block-fault (recordAt (c .before .before .before .before .before .before .before .before .args .m .now) 1) (c .before .before .before .before .before .before .symbols .result) (c .before .before .before .before .before .loop .base + 160) (c .before .before .block-fault .ensures) (c .enum-told .given .1) (omega arith))
+returns c = rw (c .before .before .before .before .before .before .before .symbols .ensures .0) at (block-fault (recordAt (c .before .before .before .before .before .before .before .before .before .args .m .now) 1) (c .before .before .before .before .before .before .before .symbols .result) (c .before .before .before .before .end-of .result) (c .before .before .block-fault .ensures) (c .enum-told .given .1) (omega arith))
 
 enum-told-2 : tie.Need-enum-told-2 Inv-loop μ-loop
 enum-told-2 c = search needs
@@ -55,18 +56,9 @@ loop-less c = search needs
 loop-again : tie.Need-loop-again Inv-loop μ-loop
 loop-again c = (omega arith, sym (c .before .before .block-fault .ensures) ∙ c .enum-told2 .given .1)
 
-sub-fresh : tie.Need-sub-fresh Inv-loop μ-loop
-sub-fresh c = search needs
-
-fresh-requires-2 : tie.Need-fresh-requires-2 Inv-loop μ-loop
-fresh-requires-2 c κs = search needs
-
-block-fault-requires-2 : tie.Need-block-fault-requires-2 Inv-loop μ-loop
-block-fault-requires-2 c κs = (omega arith, omega arith, c .before .before .loop .inv .1, λ e s l h. c .fresh2 .ensures e s l (omega arith))
-
 returns-2 : tie.Need-returns-2 Inv-loop μ-loop
 unfolding sectionFault
-returns-2 c = rw (c .before .before .before .before .symbols .ensures .0) at (c .block-fault2 .ensures)
+returns-2 c = let e : c .before .loop .base ≡ c .before .before .symbols .result = omega arith in sym (rw (e, c .before .before .symbols .ensures .0) at (c .before .loop .inv .1))
 
 pub fault-spec : {M : Type 1} → statement M
 fault-spec =
@@ -76,8 +68,8 @@ fault-spec =
     μ-loop
     symbols-requires
     loop-holds
-    sub-loop
-    add-end
+    end-of-requires
+    sub-fresh
     fresh-requires
     block-fault-requires
     enum-told
@@ -85,7 +77,4 @@ fault-spec =
     enum-told-2
     loop-less
     loop-again
-    sub-fresh
-    fresh-requires-2
-    block-fault-requires-2
     returns-2)
