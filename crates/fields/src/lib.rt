@@ -144,7 +144,7 @@ pub fn name_offset(m: &[u8], i: usize) -> usize
     half_in(m, 1, 8, i, 2)
 }
 
-// A name's length and offset, where the symbols' start is at hand.
+// How long a symbol's name is, where the symbols' start is at hand.
 pub fn name_length_from(m: &[u8], symbols: usize, i: usize) -> u8
     requires { ⌜ (symbols ≡ startOf (now m) 1) × (symbols < 65536) × (i < 2 ^ 32) ⌝ }
     ensures { λ r. ⌜ r ≡ nameLength (now (m .entry)) i ⌝ }
@@ -152,6 +152,7 @@ pub fn name_length_from(m: &[u8], symbols: usize, i: usize) -> u8
     raw::byte(m, symbols + i * 8 + 1)
 }
 
+// Where a symbol's name stands in the texts, where the symbols' start is at hand.
 pub fn name_offset_from(m: &[u8], symbols: usize, i: usize) -> usize
     requires { ⌜ (symbols ≡ startOf (now m) 1) × (symbols < 65536) × (i < 2 ^ 32) ⌝ }
     ensures { λ r. ⌜ (r ≡ nameOffset (now (m .entry)) i) × (r < 65536) ⌝ }
