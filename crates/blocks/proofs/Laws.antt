@@ -27,21 +27,21 @@ use Rattle.symbol_rules.proofs.Laws.{range-off}
 use Rattle.blocks.specs.Rows.{placeOf, Rows, firstDefault, chosen, Free, Marked}
 
 -- WHERE A SYMBOL STANDS in a block
-place-in : (t base a : ℕ) → t < 65536 → base < 65536 → t ≡ base + a → a < 112 → placeOf t base ≡ a
+place-in : (t base a : ℕ) → t < 65536 → base < 65536 → t ≡ base + a → a < 80 → placeOf t base ≡ a
 place-in t base a lt lb e l = let z : t + 65536 - base ≡ a + 65536 = omega arith in rw z (omega arith)
 
-place-out : (t base a : ℕ) → t < 65536 → base < 65536 → base + a < 65536 → (t ≡ base + a → ⊥) → a < 112 → a ≡ placeOf t base → ⊥
+place-out : (t base a : ℕ) → t < 65536 → base < 65536 → base + a < 65536 → (t ≡ base + a → ⊥) → a < 80 → a ≡ placeOf t base → ⊥
 place-out t base a lt lb lw n l e = n (omega arith)
 
 -- A PASS: before its first turn, and after the turn of record j, on symbol t, that stores v at place i
 module _ (step : ℕ → ℕ → ℕ → ℕ) (base : ℕ) where
-  pub rows-none : Rows step 0 base (replicate 113 0)
+  pub rows-none : Rows step 0 base (replicate 81 0)
   unfolding fold
-  rows-none i l w = getD-replicate 113 i 0 0 (omega arith)
+  rows-none i l w = getD-replicate 81 i 0 0 (omega arith)
 
   pub rows-more :
       (room : List ℕ) (j : ℕ) (f : ℕ → ℕ) {t i v : ℕ} → ((s x : ℕ) → step s j x ≡ pick (eqb t s) (f x) x) → t < 65536 → base < 65536
-      → i ≡ placeOf t base → v ≡ pick (eqb i 112) (getD room i 0) (f (getD room i 0)) → length room ≡ 113 → Rows step j base room
+      → i ≡ placeOf t base → v ≡ pick (eqb i 80) (getD room i 0) (f (getD room i 0)) → length room ≡ 81 → Rows step j base room
       → Rows step (j + 1) base (set room i v)
   unfolding fold
   rows-more room j f {t} {i} {v} es lt lb ei ev len all a l w = rw (add-one j) (turn (eqb t (base + a)) refl)
@@ -49,14 +49,14 @@ module _ (step : ℕ → ℕ → ℕ → ℕ) (base : ℕ) where
       turn : (q : Bool) → eqb t (base + a) ≡ q → getD (set room i v) a 0 ≡ step (base + a) j (fold (step (base + a)) 0 j)
       turn true h =
           let z : i ≡ a = ei ∙ place-in t base a lt lb (eqb-true _ _ h) l in
-          let n : eqb i 112 ≡ false = ne-eqb i 112 (λ e. absurd (omega arith)) in
+          let n : eqb i 80 ≡ false = ne-eqb i 80 (λ e. absurd (omega arith)) in
           let u : v ≡ f (fold (step (base + a)) 0 j) = ev ∙ rw (n, z) (ap f (all a l w)) in
           rw (es (base + a) (fold (step (base + a)) 0 j), h, z) (getD-set-same room a v 0 (omega arith) ∙ u)
       turn false h =
           rw (es (base + a) (fold (step (base + a)) 0 j), h)
           (getD-set-other room i a v 0 (λ e. place-out t base a lt lb w (eqb-false _ _ h) l (e ∙ ei)) ∙ all a l w)
 
-  pub rows-at : (room : List ℕ) (n s : ℕ) → Rows step n base room → base ≤ s → s < base + 112 → s < 65536 → getD room (s - base) 0 ≡ fold (step s) 0 n
+  pub rows-at : (room : List ℕ) (n s : ℕ) → Rows step n base room → base ≤ s → s < base + 80 → s < 65536 → getD room (s - base) 0 ≡ fold (step s) 0 n
   rows-at room n s all l h w = let e : base + (s - base) ≡ s = omega arith in all (s - base) (omega arith) (omega arith) ∙ rw e
 
 -- LOWER and the FIRST DEFAULT as such passes
@@ -106,7 +106,7 @@ module _ (m t vs : List ℕ) (base : ℕ) where
 
   pub marked-more :
       (room : List ℕ) (r : ℕ) {s i v : ℕ} → s ≡ rangeSymbol m r → s < 65536 → base < 65536 → i ≡ placeOf s base → v ≡ getD room i 0 % 4 + 4
-      → length room ≡ 113 → Marked m t vs r base room → Marked m t vs (r + 1) base (set room i v)
+      → length room ≡ 81 → Marked m t vs r base room → Marked m t vs (r + 1) base (set room i v)
   marked-more room r {s} {i} {v} es ls lb ei ev len all a l w = turn (eqb s (base + a)) refl
     where
       turn : (q : Bool) → eqb s (base + a) ≡ q
@@ -122,7 +122,7 @@ module _ (m t vs : List ℕ) (base : ℕ) where
                 (eq-or-lt-of-le (le-of-suc-le-suc (rw (add-one r) at n))),
           )
 
-  pub marked-at : (room : List ℕ) (n s : ℕ) → Marked m t vs n base room → base ≤ s → s < base + 112 → s < 65536
+  pub marked-at : (room : List ℕ) (n s : ℕ) → Marked m t vs n base room → base ≤ s → s < base + 80 → s < 65536
       → (getD room (s - base) 0 % 4 ≡ lowerOf m t vs s) × (getD room (s - base) 0 < 4 → Free m n s)
   marked-at room n s all l h w =
       let e : base + (s - base) ≡ s = omega arith in
@@ -130,7 +130,7 @@ module _ (m t vs : List ℕ) (base : ℕ) where
       (a .0 ∙ rw e, λ k. rw e at (a .1 k))
 
 pub first-at : (m vs : List ℕ) (base : ℕ) (room : List ℕ) (s : ℕ) → Rows (defaultStep m (conditionValue m vs) suc) (defaults m) base room
-    → base ≤ s → s < base + 112 → s < 65536 → getD room (s - base) 0 ≡ firstDefault m vs s
+    → base ≤ s → s < base + 80 → s < 65536 → getD room (s - base) 0 ≡ firstDefault m vs s
 unfolding firstDefault defaultFrom
 first-at m vs base room s all l h w = rows-at (defaultStep m (conditionValue m vs) suc) base room (defaults m) s all l h w
 

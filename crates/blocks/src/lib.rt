@@ -1,4 +1,4 @@
-// Rules 11 to 14 for all symbols, by blocks of 112.
+// Rules 11 to 14 for all symbols, by blocks of 80.
 //
 // Total over any bytes: `vs` has the nodes' values. For each block one pass over the selects works out Lower of its symbols, one
 // over the ranges says which have any, one over the defaults finds the first of each that applies.
@@ -22,18 +22,18 @@ use tri::Tri;
 // Where s stands in the block from base on; outside it, at the spare place.
 fn place(s: usize, base: usize) -> usize
     requires { ⌜ (s < 65536) × (base < 65536) ⌝ }
-    ensures { λ r. ⌜ (r ≡ placeOf s base) × (r < 113) ⌝ }
+    ensures { λ r. ⌜ (r ≡ placeOf s base) × (r < 81) ⌝ }
 {
     let i = (s + 65536 - base) % 65536;
-    if i < 112 { i } else { 112 }
+    if i < 80 { i } else { 80 }
 }
 
 // Lower so far of the symbol at place i, with select k added, which is on it.
 fn raised(m: &[u8], t: &[u8], vs: &[u8], k: usize, i: usize, low: u8) -> u8
     requires { ⌜ k < 65536 ⌝ }
-    ensures { λ r. ⌜ r ≡ pick (eqb i 112) low (orOf low (givenOf (now (m .entry)) (now (t .entry)) (now (vs .entry)) k)) ⌝ }
+    ensures { λ r. ⌜ r ≡ pick (eqb i 80) low (orOf low (givenOf (now (m .entry)) (now (t .entry)) (now (vs .entry)) k)) ⌝ }
 {
-    if i == 112 {
+    if i == 80 {
         return low;
     }
     let old = Tri { v: low };
@@ -44,9 +44,9 @@ fn raised(m: &[u8], t: &[u8], vs: &[u8], k: usize, i: usize, low: u8) -> u8
 // The first default so far of the symbol at place i, from the last default on, covered by d if that applies.
 fn covered(m: &[u8], vs: &[u8], d: usize, i: usize, later: u16) -> u16
     requires { ⌜ d < 65535 ⌝ }
-    ensures { λ r. ⌜ r ≡ pick (eqb i 112) later (pick (ltb 0 (conditionValue (now (m .entry)) (now (vs .entry)) d)) (d + 1) later) ⌝ }
+    ensures { λ r. ⌜ r ≡ pick (eqb i 80) later (pick (ltb 0 (conditionValue (now (m .entry)) (now (vs .entry)) d)) (d + 1) later) ⌝ }
 {
-    if i == 112 {
+    if i == 80 {
         return later;
     }
     let condition = values::at(vs, fields::default_condition(m, d));
@@ -102,12 +102,12 @@ fn symbol_fault(m: &[u8], t: &[u8], vs: &[u8], s: usize, low: u8, first: u16) ->
     symbol_rules::ranges_fault(m, t, vs, s)
 }
 
-// 11 to 14 of the symbols below end, where those below base keep them and at most 112 are left.
+// 11 to 14 of the symbols below end, where those below base keep them and at most 80 are left.
 fn block_fault(m: &[u8], t: &[u8], vs: &[u8], base: usize, end: usize) -> Outcome
-    requires { ⌜ (base ≤ end) × (end ≤ base + 112) × (end < 65536) × (firstBelow (symbolFault (now m) (now t) (now vs)) base ≡ Clean) ⌝ }
+    requires { ⌜ (base ≤ end) × (end ≤ base + 80) × (end < 65536) × (firstBelow (symbolFault (now m) (now t) (now vs)) base ≡ Clean) ⌝ }
     ensures { λ r. ⌜ r ≡ firstBelow (symbolFault (now (m .entry)) (now (t .entry)) (now (vs .entry))) end ⌝ }
 {
-    let mut low = [0u8; 113];
+    let mut low = [0u8; 81];
     let selects = fields::selects(m);
     let selects_at = fields::start(m, 4);
     for k in 0..selects {
@@ -119,7 +119,7 @@ fn block_fault(m: &[u8], t: &[u8], vs: &[u8], base: usize, end: usize) -> Outcom
         let i = place(fields::range_symbol(m, r), base);
         low[i] = low[i] % 4 + 4;
     }
-    let mut first = [0u16; 113];
+    let mut first = [0u16; 81];
     let defaults = fields::defaults(m);
     let defaults_at = fields::start(m, 3);
     for j in 0..defaults {
@@ -143,8 +143,8 @@ pub fn fault(m: &[u8], t: &[u8], vs: &[u8]) -> Outcome
 {
     let n = fields::symbols(m);
     let mut base: usize = 0;
-    while 112 < n - base {
-        let end = base + 112;
+    while 80 < n - base {
+        let end = base + 80;
         let at = block_fault(m, t, vs, base, end);
         if let Outcome::Fault(_, _, _) = at {
             return at;

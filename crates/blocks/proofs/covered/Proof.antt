@@ -10,7 +10,7 @@ use Rattle.fields.proofs.default_condition.Reads as default-condition-reads
 use Rattle.values.proofs.at.Reads as at-reads
 
 returns : tie.Need-returns
-returns c = rw (eq-eqb (c .before .before .before .args .i) 112 (c .if1 .taken))
+returns c = rw (eq-eqb (c .before .before .before .args .i) 80 (c .if1 .taken))
 
 default-condition-requires : tie.Need-default-condition-requires
 default-condition-requires c κs = search needs
@@ -25,10 +25,10 @@ cast-result : tie.Need-cast-result
 cast-result c = search needs
 
 returns-2 : tie.Need-returns-2
-returns-2 c = rw (ne-eqb (c .before .before .before .before .before .before .before .args .i) 112 (c .before .before .before .before .if1 .left), ← c .before .before .before .default-condition .ensures .0, ← c .before .before .at .ensures, lt-ltb 0 _ (c .if2 .taken))
+returns-2 c = rw (ne-eqb (c .before .before .before .before .before .before .before .args .i) 80 (c .before .before .before .before .if1 .left), ← c .before .before .before .default-condition .ensures .0, ← c .before .before .at .ensures, lt-ltb 0 _ (c .if2 .taken))
 
 returns-3 : tie.Need-returns-3
-returns-3 c = rw (ne-eqb (c .before .before .before .before .before .before .before .args .i) 112 (c .before .before .before .before .if1 .left), ← c .before .before .before .default-condition .ensures .0, ← c .before .before .at .ensures, le-ltb 0 _ (c .if2 .left))
+returns-3 c = rw (ne-eqb (c .before .before .before .before .before .before .before .args .i) 80 (c .before .before .before .before .if1 .left), ← c .before .before .before .default-condition .ensures .0, ← c .before .before .at .ensures, le-ltb 0 _ (c .if2 .left))
 
 pub covered-spec : {M : Type 1} → statement M
 covered-spec =

@@ -10,7 +10,7 @@ use Rattle.tri.proofs.Tri.or.Reads as or-reads
 use Rattle.values.proofs.given.Reads as given-reads
 
 returns : tie.Need-returns
-returns c = rw (eq-eqb (c .before .before .before .before .args .i) 112 (c .if1 .taken))
+returns c = rw (eq-eqb (c .before .before .before .before .args .i) 80 (c .if1 .taken))
 
 given-requires : tie.Need-given-requires
 given-requires c κs = search needs
@@ -19,7 +19,7 @@ or-requires : tie.Need-or-requires
 or-requires c κs = search needs
 
 returns-2 : tie.Need-returns-2
-returns-2 c = rw (ne-eqb (c .before .before .before .before .before .before .args .i) 112 (c .before .before .if1 .left)) (rw (c .before .given .ensures) at (c .or .ensures))
+returns-2 c = rw (ne-eqb (c .before .before .before .before .before .before .args .i) 80 (c .before .before .if1 .left)) (rw (c .before .given .ensures) at (c .or .ensures))
 
 pub raised-spec : {M : Type 1} → statement M
 raised-spec = tie.close (tie.spec returns given-requires or-requires returns-2)
