@@ -1,21 +1,20 @@
 -- Sets value by value, and a turn of the loops over pairs. Assumes nothing.
-use mathlib.Core.Path.{_≡_, refl, sym, _∙_, ap}
+use mathlib.Core.Path.{_≡_, refl, _∙_, ap}
 use mathlib.Core.List.{List, [], _∷_, _++_}
 use lib.ListN.{length, getD, drop, replicate, set, length-replicate}
 use lib.Seq.{drop-cons, set-at}
 use native.Mathlib.Numerals.{add-one}
 use native.Mathlib.Nat.{le-of-suc-le-suc}
 use mathlib.Core.Bool.{Bool, true, false, _||_}
-use Prim.Native.Nat.{ℕ, zero, suc, _+_, _-_, _≤_, _<_}
+use Prim.Native.Nat.{ℕ, zero, suc, _+_, _≤_, _<_}
 use native.Mathlib.Omega.{arith}
 use borrow.Author.Tests.{eq-eqb, ne-eqb, le-leb, lt-leb}
-use lib.Dec.{eqb}
 use Rattle.tri.specs.Three.{triOf, orOf}
 use Rattle.meaning.specs.Base.{pick, fold, part, sameText}
-use Rattle.meaning.specs.Book.{opOf, leftOf, defaults, targetOf, defaultSymbol, defaultCondition, defaultValue}
+use Rattle.meaning.specs.Book.{opOf, leftOf, targetOf}
 use Rattle.meaning.specs.Spell.{spelled}
 use Rattle.meaning.specs.Values.{leafOf, yesNo}
-use Rattle.meaning.specs.Sets.{has, only, withOne, row, pairs, sat, leafSet, isFree, spelledAt, equalAt, equalSet, givenSet, lowerSetStep, chooseSet, defaultSetStep}
+use Rattle.meaning.specs.Sets.{has, only, withOne, row, pairs, sat, leafSet, isFree, spelledAt, equalAt, equalSet, givenSet, lowerSetStep}
 use Rattle.meaning.specs.Findings.{zeroed}
 use Rattle.spell.specs.declared.Leaf.{Leaf}
 use Rattle.spell.specs.declared.Leaf.the-variants.{Three}
@@ -110,7 +109,7 @@ module _ (m ys : List ℕ) (i j : ℕ) {a b : Bool} (ea : a ≡ isFree m i) (eb 
   unfolding equalSet
   both-three t el ek er = rw (← ea, ← eb, t, ← el, ← ek) er
 
--- LOWER AND DEFAULT, a record at a time
+-- LOWER, a record at a time
 module _ (m ys ss : List ℕ) (s k low : ℕ) {target : ℕ} (et : target ≡ targetOf m k) where
   pub lower-kept : (target ≡ s → ⊥) → low ≡ lowerSetStep m ys ss s k low
   unfolding lowerSetStep
@@ -119,19 +118,6 @@ module _ (m ys ss : List ℕ) (s k low : ℕ) {target : ℕ} (et : target ≡ ta
   pub lower-raised : {g r : ℕ} → target ≡ s → g ≡ givenSet m ys ss k → r ≡ pairs orOf low g → r ≡ lowerSetStep m ys ss s k low
   unfolding lowerSetStep
   lower-raised h eg er = rw (← et, h, eq-eqb s s refl, ← eg) er
-
-module _ (m ss : List ℕ) (s j later : ℕ) {n on : ℕ} (en : n ≡ defaults m) (eo : on ≡ defaultSymbol m (n - 1 - j)) where
-  from-last : defaults m - suc j ≡ n - 1 - j
-  from-last = rw (← en) (omega arith)
-
-  pub default-kept : (on ≡ s → ⊥) → later ≡ defaultSetStep m ss s j later
-  unfolding defaultSetStep
-  default-kept h = rw (from-last, ← eo, ne-eqb on s h)
-
-  pub default-chosen : {c v r : ℕ} → on ≡ s → c ≡ sat ss (defaultCondition m (n - 1 - j)) → v ≡ sat ss (defaultValue m (n - 1 - j))
-      → r ≡ chooseSet c v later → r ≡ defaultSetStep m ss s j later
-  unfolding defaultSetStep
-  default-chosen h ec ev er = rw (from-last, ← eo, h, eq-eqb s s refl, ← ec, ← ev) er
 
 -- A ROOM cleared so far, and one byte more
 slide : (k : ℕ) (l : List ℕ) → replicate k 0 ++ (0 ∷ l) ≡ 0 ∷ (replicate k 0 ++ l)

@@ -1,3 +1,4 @@
+pub mod Defaults
 pub mod Laws
 pub mod Nodes
 pub mod Unique

@@ -3,16 +3,17 @@
 // A set is a byte: 1 for n, 2 for m, 4 for y, added up. `ys` has the symbols' sets. The node work keeps the set of a node once it
 // is worked out, so that only what is read is worked out, and that once.
 ghost use mathlib.Core.Path.{_≡_};
+ghost use mathlib.Core.Bool.{_||_};
 ghost use Prim.Native.Nat.{ℕ, _+_, _<_, _≤_, _^_};
 ghost use mathlib.Core.List.{[]};
 ghost use lib.Dec.{eqb};
 ghost use lib.ListN.{length};
 ghost use Rattle.tri.specs.Three.{triOf, andOf, orOf};
 ghost use Rattle.meaning.specs.Base.{pick, fold};
-ghost use Rattle.meaning.specs.Book.{nodes as nodesOf, defaults as defaultsOf};
+ghost use Rattle.meaning.specs.Book.{start as startOf, nodes as nodesOf, defaultValue};
 ghost use Rattle.meaning.specs.Sets.{has as hasOf, setOf, only as onlyOf, full as fullOf, withOne, join as joinOf, row, pairs as pairsOf};
 ghost use Rattle.meaning.specs.Sets.{least as leastOf, most as mostOf, sat, leafSet, isFree, spelledAt, equalAt, equalSet, notSet, nodeSets};
-ghost use Rattle.meaning.specs.Sets.{givenSet, lowerSetStep, lowerSet, chooseSet, defaultSetStep, defaultSet};
+ghost use Rattle.meaning.specs.Sets.{givenSet, lowerSetStep, lowerSet, defaultSet};
 ghost use Rattle.meaning.specs.Findings.{zeroed};
 ghost use Rattle.spell.specs.Leaves.{spelledLeaf};
 ghost use Rattle.sets.specs.Work.{applied, equalityOf, among, Known};
@@ -337,12 +338,12 @@ fn given(m: &[u8], ys: &[u8], w: &mut [u8], k: usize) -> u8
     both(at(ys, fields::selector_of(m, k)), condition)
 }
 
-// Lower's set so far, with select k added if it is on s.
-fn raised(m: &[u8], ys: &[u8], w: &mut [u8], s: usize, k: usize, low: u8) -> u8
-    requires { ⌜ (k < 2 ^ 32) × Known (now m) (now ys) (now w) ⌝ }
+// Lower's set so far, with select k added if it is on s, where the selects' start is at hand.
+fn raised(m: &[u8], ys: &[u8], w: &mut [u8], selects: usize, s: usize, k: usize, low: u8) -> u8
+    requires { ⌜ (selects ≡ startOf (now m) 4) × (selects < 65536) × (k < 2 ^ 32) × Known (now m) (now ys) (now w) ⌝ }
     ensures { λ r. ⌜ (r ≡ lowerSetStep (now (m .entry)) (now (ys .entry)) (nodeSets (now (m .entry)) (now (ys .entry))) s k low) × Known (now (m .entry)) (now (ys .entry)) (now (w .exit)) ⌝ }
 {
-    if fields::target_of(m, k) != s {
+    if fields::target_from(m, selects, k) != s {
         return low;
     }
     either(low, given(m, ys, w, k))
@@ -354,47 +355,43 @@ pub fn lower(m: &[u8], ys: &[u8], w: &mut [u8], s: usize) -> u8
     ensures { λ r. ⌜ (r ≡ lowerSet (now (m .entry)) (now (ys .entry)) (nodeSets (now (m .entry)) (now (ys .entry))) s) × Known (now (m .entry)) (now (ys .entry)) (now (w .exit)) ⌝ }
 {
     let n = fields::selects(m);
+    let selects = fields::start(m, 4);
     let mut low: u8 = 1;
     for k in 0..n {
-        low = raised(m, ys, w, s, k, low);
+        low = raised(m, ys, w, selects, s, k, low);
     }
     low
 }
 
-// A default's set where its condition may be above n, and what comes later where it may be n.
-fn choose(condition: u8, value: u8, later: u8) -> u8
-    ensures { λ r. ⌜ r ≡ chooseSet condition value later ⌝ }
+// What default d may give, where its condition's set is at hand: nothing where that is never above n.
+fn gives(m: &[u8], ys: &[u8], w: &mut [u8], condition: u8, d: usize) -> u8
+    requires { ⌜ (d < 2 ^ 32) × Known (now m) (now ys) (now w) ⌝ }
+    ensures { λ r. ⌜ (r ≡ pick (hasOf condition 1 || hasOf condition 2) (sat (nodeSets (now (m .entry)) (now (ys .entry))) (defaultValue (now (m .entry)) d)) 0) × Known (now (m .entry)) (now (ys .entry)) (now (w .exit)) ⌝ }
 {
-    let here = bit(has(condition, 1) | has(condition, 2), value);
-    let past = bit(has(condition, 0), later);
-    join(here, past)
-}
-
-// Default's set so far, from the last default on, with the one j before the last if it is on s.
-fn covered(m: &[u8], ys: &[u8], w: &mut [u8], s: usize, j: usize, later: u8) -> u8
-    requires { ⌜ (j < defaultsOf (now m)) × Known (now m) (now ys) (now w) ⌝ }
-    ensures { λ r. ⌜ (r ≡ defaultSetStep (now (m .entry)) (nodeSets (now (m .entry)) (now (ys .entry))) s j later) × Known (now (m .entry)) (now (ys .entry)) (now (w .exit)) ⌝ }
-{
-    let d = fields::defaults(m) - 1 - j;
-    if fields::default_symbol(m, d) != s {
-        return later;
+    if has(condition, 1) | has(condition, 2) {
+        return node(m, ys, w, fields::default_value(m, d));
     }
-    let condition = node(m, ys, w, fields::default_condition(m, d));
-    let value = node(m, ys, w, fields::default_value(m, d));
-    choose(condition, value, later)
+    0
 }
 
-// Default's set of symbol s.
+// Default's set of symbol s: what each default on it may give, up to the first whose condition is never n.
 pub fn default_of(m: &[u8], ys: &[u8], w: &mut [u8], s: usize) -> u8
     requires { ⌜ Known (now m) (now ys) (now w) ⌝ }
     ensures { λ r. ⌜ (r ≡ defaultSet (now (m .entry)) (nodeSets (now (m .entry)) (now (ys .entry))) s) × Known (now (m .entry)) (now (ys .entry)) (now (w .exit)) ⌝ }
 {
     let n = fields::defaults(m);
-    let mut later: u8 = 1;
-    for j in 0..n {
-        later = covered(m, ys, w, s, j, later);
+    let defaults = fields::start(m, 3);
+    let mut set: u8 = 0;
+    for d in 0..n {
+        if fields::default_symbol_from(m, defaults, d) == s {
+            let condition = node(m, ys, w, fields::default_condition(m, d));
+            set = join(set, gives(m, ys, w, condition, d));
+            if !has(condition, 0) {
+                return set;
+            }
+        }
     }
-    later
+    join(set, 1)
 }
 
 // Writes zero over the first n bytes.
