@@ -3,7 +3,7 @@ use mathlib.Core.Path.{_≡_, refl, sym, _∙_, ap}
 use mathlib.Core.Bool.{Bool, true, false}
 use mathlib.Core.List.{List, []}
 use mathlib.Core.Logic.{⊎-elim}
-use Prim.Native.Nat.{ℕ, zero, suc, _+_, _-_, _%_, _≤_, _<_, min, max}
+use Prim.Native.Nat.{ℕ, zero, suc, _+_, _-_, _%_, _≤_, _<_}
 use native.Mathlib.Nat.{eq-or-lt-of-le, le-of-suc-le-suc}
 use native.Mathlib.Omega.{arith}
 use native.Mathlib.Numerals.{add-one}
@@ -33,28 +33,37 @@ place-in t base a lt lb e l = let z : t + 65536 - base ≡ a + 65536 = omega ari
 place-out : (t base a : ℕ) → t < 65536 → base < 65536 → base + a < 65536 → (t ≡ base + a → ⊥) → a < 80 → a ≡ placeOf t base → ⊥
 place-out t base a lt lb lw n l e = n (omega arith)
 
--- A PASS: before its first turn, and after the turn of record j, on symbol t, that stores v at place i
+-- A PASS: before its first turn, and after the turn of record j, on symbol t, that stores v at place i, or nothing outside the block
 module _ (step : ℕ → ℕ → ℕ → ℕ) (base : ℕ) where
-  pub rows-none : Rows step 0 base (replicate 81 0)
+  pub rows-none : Rows step 0 base (replicate 80 0)
   unfolding fold
-  rows-none i l w = getD-replicate 81 i 0 0 (omega arith)
+  rows-none i l w = getD-replicate 80 i 0 0 l
 
-  pub rows-more :
-      (room : List ℕ) (j : ℕ) (f : ℕ → ℕ) {t i v : ℕ} → ((s x : ℕ) → step s j x ≡ pick (eqb t s) (f x) x) → t < 65536 → base < 65536
-      → i ≡ placeOf t base → v ≡ pick (eqb i 80) (getD room i 0) (f (getD room i 0)) → length room ≡ 81 → Rows step j base room
-      → Rows step (j + 1) base (set room i v)
-  unfolding fold
-  rows-more room j f {t} {i} {v} es lt lb ei ev len all a l w = rw (add-one j) (turn (eqb t (base + a)) refl)
-    where
-      turn : (q : Bool) → eqb t (base + a) ≡ q → getD (set room i v) a 0 ≡ step (base + a) j (fold (step (base + a)) 0 j)
-      turn true h =
-          let z : i ≡ a = ei ∙ place-in t base a lt lb (eqb-true _ _ h) l in
-          let n : eqb i 80 ≡ false = ne-eqb i 80 (λ e. absurd (omega arith)) in
-          let u : v ≡ f (fold (step (base + a)) 0 j) = ev ∙ rw (n, z) (ap f (all a l w)) in
-          rw (es (base + a) (fold (step (base + a)) 0 j), h, z) (getD-set-same room a v 0 (omega arith) ∙ u)
-      turn false h =
-          rw (es (base + a) (fold (step (base + a)) 0 j), h)
-          (getD-set-other room i a v 0 (λ e. place-out t base a lt lb w (eqb-false _ _ h) l (e ∙ ei)) ∙ all a l w)
+  module _ (room : List ℕ) (j : ℕ) (f : ℕ → ℕ) {t i : ℕ} (es : (s x : ℕ) → step s j x ≡ pick (eqb t s) (f x) x) (lt : t < 65536) (lb : base < 65536)
+      (ei : i ≡ placeOf t base) (all : Rows step j base room) where
+    off : (a : ℕ) → a < 80 → base + a < 65536 → eqb t (base + a) ≡ false → (a ≡ i → ⊥) × (getD room a 0 ≡ fold (step (base + a)) 0 (suc j))
+    unfolding fold
+    off a l w h =
+        (λ e. place-out t base a lt lb w (eqb-false _ _ h) l (e ∙ ei), rw (es (base + a) (fold (step (base + a)) 0 j), h) (all a l w))
+
+    pub rows-more : {v : ℕ} → v ≡ f (getD room i 0) → length room ≡ 80 → Rows step (j + 1) base (set room i v)
+    unfolding fold
+    rows-more {v} ev len a l w = rw (add-one j) (turn (eqb t (base + a)) refl)
+      where
+        turn : (q : Bool) → eqb t (base + a) ≡ q → getD (set room i v) a 0 ≡ step (base + a) j (fold (step (base + a)) 0 j)
+        turn true h =
+            let z : i ≡ a = ei ∙ place-in t base a lt lb (eqb-true _ _ h) l in
+            let u : v ≡ f (fold (step (base + a)) 0 j) = ev ∙ rw z (ap f (all a l w)) in
+            rw (es (base + a) (fold (step (base + a)) 0 j), h, z) (getD-set-same room a v 0 (omega arith) ∙ u)
+        turn false h = let o = off a l w h in getD-set-other room i a v 0 (o .0) ∙ o .1
+
+    pub rows-same : 80 ≤ i → Rows step (j + 1) base room
+    unfolding fold
+    rows-same out a l w = rw (add-one j) (turn (eqb t (base + a)) refl)
+      where
+        turn : (q : Bool) → eqb t (base + a) ≡ q → getD room a 0 ≡ step (base + a) j (fold (step (base + a)) 0 j)
+        turn true h = absurd (omega (arith, ei ∙ place-in t base a lt lb (eqb-true _ _ h) l))
+        turn false h = off a l w h .1
 
   pub rows-at : (room : List ℕ) (n s : ℕ) → Rows step n base room → base ≤ s → s < base + 80 → s < 65536 → getD room (s - base) 0 ≡ fold (step s) 0 n
   rows-at room n s all l h w = let e : base + (s - base) ≡ s = omega arith in all (s - base) (omega arith) (omega arith) ∙ rw e
@@ -104,23 +113,32 @@ module _ (m t vs : List ℕ) (base : ℕ) where
       let k = lower-small m (given m t vs) (base + i) (λ k. omega (arith, value-small t (selectorOf m k))) (selects m) in
       (omega (arith, e, k), λ z r n. absurd (omega arith))
 
-  pub marked-more :
-      (room : List ℕ) (r : ℕ) {s i v : ℕ} → s ≡ rangeSymbol m r → s < 65536 → base < 65536 → i ≡ placeOf s base → v ≡ getD room i 0 % 4 + 4
-      → length room ≡ 81 → Marked m t vs r base room → Marked m t vs (r + 1) base (set room i v)
-  marked-more room r {s} {i} {v} es ls lb ei ev len all a l w = turn (eqb s (base + a)) refl
-    where
-      turn : (q : Bool) → eqb s (base + a) ≡ q
-          → (getD (set room i v) a 0 % 4 ≡ lowerOf m t vs (base + a)) × (getD (set room i v) a 0 < 4 → Free m (r + 1) (base + a))
-      turn true h =
-          let z : i ≡ a = ei ∙ place-in s base a ls lb (eqb-true _ _ h) l in
-          let u : getD (set room i v) a 0 ≡ getD room a 0 % 4 + 4 = rw z (getD-set-same room a v 0 (omega arith)) ∙ ev ∙ rw z in
-          (omega (arith, u, all a l w .0), λ k. absurd (omega (arith, u)))
-      turn false h =
-          let u : getD (set room i v) a 0 ≡ getD room a 0 = getD-set-other room i a v 0 (λ e. place-out s base a ls lb w (eqb-false _ _ h) l (e ∙ ei)) in (
-            rw u (all a l w .0),
-            λ k x n e. ⊎-elim (λ y. eqb-false _ _ h (es ∙ ap (rangeSymbol m) (sym y) ∙ e)) (λ y. all a l w .1 (omega (arith, u)) x y e)
-                (eq-or-lt-of-le (le-of-suc-le-suc (rw (add-one r) at n))),
-          )
+  module _ (room : List ℕ) (r : ℕ) {s i : ℕ} (es : s ≡ rangeSymbol m r) (ls : s < 65536) (lb : base < 65536) (ei : i ≡ placeOf s base)
+      (all : Marked m t vs r base room) where
+    free : (a : ℕ) → a < 80 → base + a < 65536 → eqb s (base + a) ≡ false → getD room a 0 < 4 → Free m (r + 1) (base + a)
+    free a l w h k x n e =
+        ⊎-elim (λ y. eqb-false _ _ h (es ∙ ap (rangeSymbol m) (sym y) ∙ e)) (λ y. all a l w .1 k x y e)
+        (eq-or-lt-of-le (le-of-suc-le-suc (rw (add-one r) at n)))
+
+    pub marked-more : {v : ℕ} → v ≡ getD room i 0 % 4 + 4 → length room ≡ 80 → Marked m t vs (r + 1) base (set room i v)
+    marked-more {v} ev len a l w = turn (eqb s (base + a)) refl
+      where
+        turn : (q : Bool) → eqb s (base + a) ≡ q
+            → (getD (set room i v) a 0 % 4 ≡ lowerOf m t vs (base + a)) × (getD (set room i v) a 0 < 4 → Free m (r + 1) (base + a))
+        turn true h =
+            let z : i ≡ a = ei ∙ place-in s base a ls lb (eqb-true _ _ h) l in
+            let u : getD (set room i v) a 0 ≡ getD room a 0 % 4 + 4 = rw z (getD-set-same room a v 0 (omega arith)) ∙ ev ∙ rw z in
+            (omega (arith, u, all a l w .0), λ k. absurd (omega (arith, u)))
+        turn false h =
+            let u : getD (set room i v) a 0 ≡ getD room a 0 = getD-set-other room i a v 0 (λ e. place-out s base a ls lb w (eqb-false _ _ h) l (e ∙ ei)) in
+            (rw u (all a l w .0), λ k. free a l w h (omega (arith, u)))
+
+    pub marked-same : 80 ≤ i → Marked m t vs (r + 1) base room
+    marked-same out a l w = (all a l w .0, turn (eqb s (base + a)) refl)
+      where
+        turn : (q : Bool) → eqb s (base + a) ≡ q → getD room a 0 < 4 → Free m (r + 1) (base + a)
+        turn true h = absurd (omega (arith, ei ∙ place-in s base a ls lb (eqb-true _ _ h) l))
+        turn false h = free a l w h
 
   pub marked-at : (room : List ℕ) (n s : ℕ) → Marked m t vs n base room → base ≤ s → s < base + 80 → s < 65536
       → (getD room (s - base) 0 % 4 ≡ lowerOf m t vs s) × (getD room (s - base) 0 < 4 → Free m n s)

@@ -1,5 +1,5 @@
 -- What the records of a section come to for each symbol of a block, and which default is a symbol's first that applies. Assumes nothing: these are definitions.
-use Prim.Native.Nat.{ℕ, zero, suc, _+_, _-_, _%_, min, _<_}
+use Prim.Native.Nat.{ℕ, zero, suc, _+_, _-_, _%_, _<_}
 use mathlib.Core.Path.{_≡_}
 use mathlib.Core.List.{List}
 use lib.Dec.{eqb}
@@ -8,9 +8,9 @@ use Rattle.meaning.specs.Base.{pick, fold}
 use Rattle.meaning.specs.Book.{rangeSymbol}
 use Rattle.meaning.specs.Values.{defaultFrom, conditionValue, lowerOf}
 
--- where symbol s stands in the block of 80 from base on; 80 outside it
+-- how far behind base symbol s stands, round the 65,536 numbers: below 80 in the block from base on
 abbrev pub placeOf : ℕ → ℕ → ℕ
-placeOf s base = min ((s + 65536 - base) % 65536) 80
+placeOf s base = (s + 65536 - base) % 65536
 
 -- a room has, for each symbol of the block, what the first n records come to
 abbrev pub Rows : (ℕ → ℕ → ℕ → ℕ) → ℕ → ℕ → List ℕ → Type 0

@@ -19,36 +19,29 @@ use meaning::Outcome;
 use spell::Leaf;
 use tri::Tri;
 
-// Where s stands in the block from base on; outside it, at the spare place.
+// How far behind base s stands; a block's own symbols are the first 80.
 fn place(s: usize, base: usize) -> usize
     requires { ⌜ (s < 65536) × (base < 65536) ⌝ }
-    ensures { λ r. ⌜ (r ≡ placeOf s base) × (r < 81) ⌝ }
+    ensures { λ r. ⌜ r ≡ placeOf s base ⌝ }
 {
-    let i = (s + 65536 - base) % 65536;
-    if i < 80 { i } else { 80 }
+    (s + 65536 - base) % 65536
 }
 
-// Lower so far of the symbol at place i, with select k added, which is on it.
-fn raised(m: &[u8], t: &[u8], vs: &[u8], k: usize, i: usize, low: u8) -> u8
+// Lower so far of a symbol, with select k added, which is on it.
+fn raised(m: &[u8], t: &[u8], vs: &[u8], k: usize, low: u8) -> u8
     requires { ⌜ k < 65536 ⌝ }
-    ensures { λ r. ⌜ r ≡ pick (eqb i 80) low (orOf low (givenOf (now (m .entry)) (now (t .entry)) (now (vs .entry)) k)) ⌝ }
+    ensures { λ r. ⌜ r ≡ orOf low (givenOf (now (m .entry)) (now (t .entry)) (now (vs .entry)) k) ⌝ }
 {
-    if i == 80 {
-        return low;
-    }
     let old = Tri { v: low };
     let new = old.or(values::given(m, t, vs, k));
     new.v
 }
 
-// The first default so far of the symbol at place i, from the last default on, covered by d if that applies.
-fn covered(m: &[u8], vs: &[u8], d: usize, i: usize, later: u16) -> u16
+// The first default so far of a symbol, from the last default on, covered by d, which is on it, if that applies.
+fn covered(m: &[u8], vs: &[u8], d: usize, later: u16) -> u16
     requires { ⌜ d < 65535 ⌝ }
-    ensures { λ r. ⌜ r ≡ pick (eqb i 80) later (pick (ltb 0 (conditionValue (now (m .entry)) (now (vs .entry)) d)) (d + 1) later) ⌝ }
+    ensures { λ r. ⌜ r ≡ pick (ltb 0 (conditionValue (now (m .entry)) (now (vs .entry)) d)) (d + 1) later ⌝ }
 {
-    if i == 80 {
-        return later;
-    }
     let condition = values::at(vs, fields::default_condition(m, d));
     if 0 < condition.v {
         return (d + 1) as u16;
@@ -107,25 +100,31 @@ fn block_fault(m: &[u8], t: &[u8], vs: &[u8], base: usize, end: usize) -> Outcom
     requires { ⌜ (base ≤ end) × (end ≤ base + 80) × (end < 65536) × (firstBelow (symbolFault (now m) (now t) (now vs)) base ≡ Clean) ⌝ }
     ensures { λ r. ⌜ r ≡ firstBelow (symbolFault (now (m .entry)) (now (t .entry)) (now (vs .entry))) end ⌝ }
 {
-    let mut low = [0u8; 81];
+    let mut low = [0u8; 80];
     let selects = fields::selects(m);
     let selects_at = fields::start(m, 4);
     for k in 0..selects {
         let i = place(fields::target_from(m, selects_at, k), base);
-        low[i] = raised(m, t, vs, k, i, low[i]);
+        if i < 80 {
+            low[i] = raised(m, t, vs, k, low[i]);
+        }
     }
     let ranges = fields::ranges(m);
     for r in 0..ranges {
         let i = place(fields::range_symbol(m, r), base);
-        low[i] = low[i] % 4 + 4;
+        if i < 80 {
+            low[i] = low[i] % 4 + 4;
+        }
     }
-    let mut first = [0u16; 81];
+    let mut first = [0u16; 80];
     let defaults = fields::defaults(m);
     let defaults_at = fields::start(m, 3);
     for j in 0..defaults {
         let d = defaults - 1 - j;
         let i = place(fields::default_symbol_from(m, defaults_at, d), base);
-        first[i] = covered(m, vs, d, i, first[i]);
+        if i < 80 {
+            first[i] = covered(m, vs, d, first[i]);
+        }
     }
     for s in base..end {
         let i = s - base;

@@ -1,5 +1,5 @@
 -- `blocks::block_fault` meets its contract: each pass has what the records so far come to, and the symbols are then tested in order by what the passes found.
-use Rattle.blocks.proofs.Laws.{rows-none, rows-more, lower-step, first-step, marked-none, marked-more, marked-at, first-at}
+use Rattle.blocks.proofs.Laws.{rows-none, rows-more, rows-same, lower-step, first-step, marked-none, marked-more, marked-same, marked-at, first-at}
 use Rattle.blocks.specs.Rows.{Rows, Marked}
 use Rattle.meaning.proofs.First.{clean-more, place-fault}
 use Rattle.meaning.specs.Rules.{symbolFault}
@@ -7,6 +7,7 @@ use Rattle.meaning.specs.Values.{given, conditionValue, lowerStep, defaultStep}
 use Rattle.meaning.specs.Base.{pick, firstBelow}
 use Rattle.meaning.specs.declared.Outcome.the-variants.{Clean}
 use Rattle.tri.specs.Three.{orOf}
+use mathlib.Core.Logic.{⊎-elim}
 use lib.ListN.{length, length-set}
 use lib.Dec.{ltb}
 use Prim.Native.Nat.{suc, _≤_, _+_, _-_}
@@ -30,19 +31,19 @@ use Rattle.fields.proofs.start.Reads as start-reads
 use Rattle.fields.proofs.target_from.Reads as target-from-reads
 
 abbrev Inv-loop : tie.InvT-loop
-Inv-loop m t vs base end low₀ selects selects-at k₀ low k = (k ≤ selects) × (length low ≡ 81) × Rows (lowerStep m (given m t vs)) k base low
+Inv-loop m t vs base end low₀ selects selects-at k₀ low k = (k ≤ selects) × (length low ≡ 80) × Rows (lowerStep m (given m t vs)) k base low
 
 abbrev μ-loop : tie.MeasureT-loop
 μ-loop m t vs base end low₀ selects selects-at k₀ low k = selects - k
 
 abbrev Inv-loop2 : tie.InvT-loop2
-Inv-loop2 m t vs base end low₀ selects selects-at ranges r₀ low r = (r ≤ ranges) × (length low ≡ 81) × Marked m t vs r base low
+Inv-loop2 m t vs base end low₀ selects selects-at ranges r₀ low r = (r ≤ ranges) × (length low ≡ 80) × Marked m t vs r base low
 
 abbrev μ-loop2 : tie.MeasureT-loop2
 μ-loop2 m t vs base end low₀ selects selects-at ranges r₀ low r = ranges - r
 
 abbrev Inv-loop3 : tie.InvT-loop3
-Inv-loop3 m t vs base end low selects selects-at ranges first₀ defaults defaults-at j₀ first j = (j ≤ defaults) × (length first ≡ 81) × Rows (defaultStep m (conditionValue m vs) suc) j base first
+Inv-loop3 m t vs base end low selects selects-at ranges first₀ defaults defaults-at j₀ first j = (j ≤ defaults) × (length first ≡ 80) × Rows (defaultStep m (conditionValue m vs) suc) j base first
 
 abbrev μ-loop3 : tie.MeasureT-loop3
 μ-loop3 m t vs base end low selects selects-at ranges first₀ defaults defaults-at j₀ first j = defaults - j
@@ -110,7 +111,10 @@ loop-less c = search needs
 
 loop-again :
     tie.Need-loop-again Inv-loop μ-loop Inv-loop2 μ-loop2 Inv-loop3 μ-loop3 Inv-loop4 μ-loop4
-loop-again c = (omega arith, simp length-set (omega arith), rows-more (lowerStep (c .before .before .before .before .before .before .before .before .before .before .args .m .now) (given (c .before .before .before .before .before .before .before .before .before .before .args .m .now) (c .before .before .before .before .before .before .before .before .before .before .args .t .now) (c .before .before .before .before .before .before .before .before .before .before .args .vs .now))) (c .before .before .before .before .before .before .before .before .before .before .args .base) (c .before .before .before .before .loop .low) (c .before .before .before .before .loop .k) (λ x. orOf x (given (c .before .before .before .before .before .before .before .before .before .before .args .m .now) (c .before .before .before .before .before .before .before .before .before .before .args .t .now) (c .before .before .before .before .before .before .before .before .before .before .args .vs .now) (c .before .before .before .before .loop .k))) (lower-step (c .before .before .before .before .before .before .before .before .before .before .args .m .now) (given (c .before .before .before .before .before .before .before .before .before .before .args .m .now) (c .before .before .before .before .before .before .before .before .before .before .args .t .now) (c .before .before .before .before .before .before .before .before .before .before .args .vs .now)) (c .before .before .before .before .loop .k) (c .before .before .target-from .ensures .0)) (c .before .before .target-from .ensures .1) (omega arith) (c .before .place .ensures .0) (c .raised .ensures) (c .before .before .before .before .loop .inv .1) (c .before .before .before .before .loop .inv .2))
+loop-again c = ⊎-elim
+    (λ x. (omega arith, rw (x .2) (simp length-set (c .before .before .before .before .loop .inv .1)), rw (x .2) (rows-more (lowerStep (c .before .before .before .before .before .before .before .before .before .before .args .m .now) (given (c .before .before .before .before .before .before .before .before .before .before .args .m .now) (c .before .before .before .before .before .before .before .before .before .before .args .t .now) (c .before .before .before .before .before .before .before .before .before .before .args .vs .now))) (c .before .before .before .before .before .before .before .before .before .before .args .base) (c .before .before .before .before .loop .low) (c .before .before .before .before .loop .k) (λ x. orOf x (given (c .before .before .before .before .before .before .before .before .before .before .args .m .now) (c .before .before .before .before .before .before .before .before .before .before .args .t .now) (c .before .before .before .before .before .before .before .before .before .before .args .vs .now) (c .before .before .before .before .loop .k))) (lower-step (c .before .before .before .before .before .before .before .before .before .before .args .m .now) (given (c .before .before .before .before .before .before .before .before .before .before .args .m .now) (c .before .before .before .before .before .before .before .before .before .before .args .t .now) (c .before .before .before .before .before .before .before .before .before .before .args .vs .now)) (c .before .before .before .before .loop .k) (c .before .before .target-from .ensures .0)) (c .before .before .target-from .ensures .1) (omega arith) (c .before .place .ensures) (c .before .before .before .before .loop .inv .2) (x .1 .ensures) (c .before .before .before .before .loop .inv .1))))
+    (λ x. (omega arith, rw (x .1) (c .before .before .before .before .loop .inv .1), rw (x .1) (rows-same (lowerStep (c .before .before .before .before .before .before .before .before .before .before .args .m .now) (given (c .before .before .before .before .before .before .before .before .before .before .args .m .now) (c .before .before .before .before .before .before .before .before .before .before .args .t .now) (c .before .before .before .before .before .before .before .before .before .before .args .vs .now))) (c .before .before .before .before .before .before .before .before .before .before .args .base) (c .before .before .before .before .loop .low) (c .before .before .before .before .loop .k) (λ x. orOf x (given (c .before .before .before .before .before .before .before .before .before .before .args .m .now) (c .before .before .before .before .before .before .before .before .before .before .args .t .now) (c .before .before .before .before .before .before .before .before .before .before .args .vs .now) (c .before .before .before .before .loop .k))) (lower-step (c .before .before .before .before .before .before .before .before .before .before .args .m .now) (given (c .before .before .before .before .before .before .before .before .before .before .args .m .now) (c .before .before .before .before .before .before .before .before .before .before .args .t .now) (c .before .before .before .before .before .before .before .before .before .before .args .vs .now)) (c .before .before .before .before .loop .k) (c .before .before .target-from .ensures .0)) (c .before .before .target-from .ensures .1) (omega arith) (c .before .place .ensures) (c .before .before .before .before .loop .inv .2) (x .0 .left))))
+    (c .if1 .came)
 
 ranges-requires :
     tie.Need-ranges-requires Inv-loop μ-loop Inv-loop2 μ-loop2 Inv-loop3 μ-loop3 Inv-loop4 μ-loop4
@@ -164,7 +168,10 @@ loop2-less c = search needs
 
 loop2-again :
     tie.Need-loop2-again Inv-loop μ-loop Inv-loop2 μ-loop2 Inv-loop3 μ-loop3 Inv-loop4 μ-loop4
-loop2-again c = (omega arith, simp length-set (omega arith), marked-more (c .before .before .before .before .before .before .before .before .before .before .before .before .args .m .now) (c .before .before .before .before .before .before .before .before .before .before .before .before .args .t .now) (c .before .before .before .before .before .before .before .before .before .before .before .before .args .vs .now) (c .before .before .before .before .before .before .before .before .before .before .before .before .args .base) (c .before .before .before .loop2 .low) (c .before .before .before .loop2 .r) (c .before .range-symbol .ensures .0) (c .before .range-symbol .ensures .1) (omega arith) (c .place2 .ensures .0) refl (c .before .before .before .loop2 .inv .1) (c .before .before .before .loop2 .inv .2))
+loop2-again c = ⊎-elim
+    (λ x. (omega arith, rw (x .1) (simp length-set (c .before .before .before .before .loop2 .inv .1)), rw (x .1) (marked-more (c .before .before .before .before .before .before .before .before .before .before .before .before .before .args .m .now) (c .before .before .before .before .before .before .before .before .before .before .before .before .before .args .t .now) (c .before .before .before .before .before .before .before .before .before .before .before .before .before .args .vs .now) (c .before .before .before .before .before .before .before .before .before .before .before .before .before .args .base) (c .before .before .before .before .loop2 .low) (c .before .before .before .before .loop2 .r) (c .before .before .range-symbol .ensures .0) (c .before .before .range-symbol .ensures .1) (omega arith) (c .before .place2 .ensures) (c .before .before .before .before .loop2 .inv .2) refl (c .before .before .before .before .loop2 .inv .1))))
+    (λ x. (omega arith, rw (x .1) (c .before .before .before .before .loop2 .inv .1), rw (x .1) (marked-same (c .before .before .before .before .before .before .before .before .before .before .before .before .before .args .m .now) (c .before .before .before .before .before .before .before .before .before .before .before .before .before .args .t .now) (c .before .before .before .before .before .before .before .before .before .before .before .before .before .args .vs .now) (c .before .before .before .before .before .before .before .before .before .before .before .before .before .args .base) (c .before .before .before .before .loop2 .low) (c .before .before .before .before .loop2 .r) (c .before .before .range-symbol .ensures .0) (c .before .before .range-symbol .ensures .1) (omega arith) (c .before .place2 .ensures) (c .before .before .before .before .loop2 .inv .2) (x .0 .left))))
+    (c .if2 .came)
 
 defaults-requires :
     tie.Need-defaults-requires
@@ -253,7 +260,10 @@ loop3-less c = search needs
 
 loop3-again :
     tie.Need-loop3-again Inv-loop μ-loop Inv-loop2 μ-loop2 Inv-loop3 μ-loop3 Inv-loop4 μ-loop4
-loop3-again c = (omega arith, simp length-set (omega arith), rows-more (defaultStep (c .before .before .before .before .before .before .before .before .before .before .before .before .before .before .before .before .before .args .m .now) (conditionValue (c .before .before .before .before .before .before .before .before .before .before .before .before .before .before .before .before .before .args .m .now) (c .before .before .before .before .before .before .before .before .before .before .before .before .before .before .before .before .before .args .vs .now)) suc) (c .before .before .before .before .before .before .before .before .before .before .before .before .before .before .before .before .before .args .base) (c .before .before .before .before .loop3 .first) (c .before .before .before .before .loop3 .j) (λ x. pick (ltb 0 (conditionValue (c .before .before .before .before .before .before .before .before .before .before .before .before .before .before .before .before .before .args .m .now) (c .before .before .before .before .before .before .before .before .before .before .before .before .before .before .before .before .before .args .vs .now) (c .before .before .before .before .before .before .defaults .result - 1 - c .before .before .before .before .loop3 .j))) ((c .before .before .before .before .before .before .defaults .result - 1 - c .before .before .before .before .loop3 .j) + 1) x) (first-step (c .before .before .before .before .before .before .before .before .before .before .before .before .before .before .before .before .before .args .m .now) (c .before .before .before .before .before .before .before .before .before .before .before .before .before .before .before .before .before .args .vs .now) (c .before .before .before .before .loop3 .j) (c .before .before .before .before .before .before .defaults .ensures .0) refl (c .before .before .default-symbol-from .ensures .0)) (c .before .before .default-symbol-from .ensures .1) (omega arith) (c .before .place3 .ensures .0) (c .covered .ensures) (c .before .before .before .before .loop3 .inv .1) (c .before .before .before .before .loop3 .inv .2))
+loop3-again c = ⊎-elim
+    (λ x. (omega arith, rw (x .2) (simp length-set (c .before .before .before .before .loop3 .inv .1)), rw (x .2) (rows-more (defaultStep (c .before .before .before .before .before .before .before .before .before .before .before .before .before .before .before .before .before .args .m .now) (conditionValue (c .before .before .before .before .before .before .before .before .before .before .before .before .before .before .before .before .before .args .m .now) (c .before .before .before .before .before .before .before .before .before .before .before .before .before .before .before .before .before .args .vs .now)) suc) (c .before .before .before .before .before .before .before .before .before .before .before .before .before .before .before .before .before .args .base) (c .before .before .before .before .loop3 .first) (c .before .before .before .before .loop3 .j) (λ x. pick (ltb 0 (conditionValue (c .before .before .before .before .before .before .before .before .before .before .before .before .before .before .before .before .before .args .m .now) (c .before .before .before .before .before .before .before .before .before .before .before .before .before .before .before .before .before .args .vs .now) (c .before .before .before .before .before .before .defaults .result - 1 - c .before .before .before .before .loop3 .j))) ((c .before .before .before .before .before .before .defaults .result - 1 - c .before .before .before .before .loop3 .j) + 1) x) (first-step (c .before .before .before .before .before .before .before .before .before .before .before .before .before .before .before .before .before .args .m .now) (c .before .before .before .before .before .before .before .before .before .before .before .before .before .before .before .before .before .args .vs .now) (c .before .before .before .before .loop3 .j) (c .before .before .before .before .before .before .defaults .ensures .0) refl (c .before .before .default-symbol-from .ensures .0)) (c .before .before .default-symbol-from .ensures .1) (omega arith) (c .before .place3 .ensures) (c .before .before .before .before .loop3 .inv .2) (x .1 .ensures) (c .before .before .before .before .loop3 .inv .1))))
+    (λ x. (omega arith, rw (x .1) (c .before .before .before .before .loop3 .inv .1), rw (x .1) (rows-same (defaultStep (c .before .before .before .before .before .before .before .before .before .before .before .before .before .before .before .before .before .args .m .now) (conditionValue (c .before .before .before .before .before .before .before .before .before .before .before .before .before .before .before .before .before .args .m .now) (c .before .before .before .before .before .before .before .before .before .before .before .before .before .before .before .before .before .args .vs .now)) suc) (c .before .before .before .before .before .before .before .before .before .before .before .before .before .before .before .before .before .args .base) (c .before .before .before .before .loop3 .first) (c .before .before .before .before .loop3 .j) (λ x. pick (ltb 0 (conditionValue (c .before .before .before .before .before .before .before .before .before .before .before .before .before .before .before .before .before .args .m .now) (c .before .before .before .before .before .before .before .before .before .before .before .before .before .before .before .before .before .args .vs .now) (c .before .before .before .before .before .before .defaults .result - 1 - c .before .before .before .before .loop3 .j))) ((c .before .before .before .before .before .before .defaults .result - 1 - c .before .before .before .before .loop3 .j) + 1) x) (first-step (c .before .before .before .before .before .before .before .before .before .before .before .before .before .before .before .before .before .args .m .now) (c .before .before .before .before .before .before .before .before .before .before .before .before .before .before .before .before .before .args .vs .now) (c .before .before .before .before .loop3 .j) (c .before .before .before .before .before .before .defaults .ensures .0) refl (c .before .before .default-symbol-from .ensures .0)) (c .before .before .default-symbol-from .ensures .1) (omega arith) (c .before .place3 .ensures) (c .before .before .before .before .loop3 .inv .2) (x .0 .left))))
+    (c .if3 .came)
 
 loop4-holds :
     tie.Need-loop4-holds Inv-loop μ-loop Inv-loop2 μ-loop2 Inv-loop3 μ-loop3 Inv-loop4 μ-loop4
