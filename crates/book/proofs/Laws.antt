@@ -1,8 +1,9 @@
 -- Where the choices are well formed, no choice's members end past what a u16 can count; and what a name is, case by case. Assumes nothing.
-use mathlib.Core.Path.{_≡_, refl, sym, _∙_}
-use mathlib.Core.Bool.{Bool, true, false, _&&_, not, false≢true}
+use mathlib.Core.Path.{_≡_, refl, _∙_}
+use mathlib.Core.Bool.{true, _&&_}
+use mathlib.Mathlib.Data.Bool.Basic.{and-elim-right}
 use mathlib.Core.List.{List, []}
-use Prim.Native.Nat.{ℕ, _+_, _*_, _≤_, _<_}
+use Prim.Native.Nat.{ℕ, _+_, _≤_, _<_}
 use native.Mathlib.Omega.{arith}
 use lib.Dec.{eqb, leb, ltb}
 use lib.ListN.{getD}
@@ -10,12 +11,8 @@ use borrow.Author.Tests.{leb-true, not-false, lt-ltb, le-ltb}
 use Rattle.meaning.specs.declared.Outcome.the-variants.{Clean, Fault}
 use Rattle.meaning.specs.declared.Outcome.{Outcome}
 use Rattle.meaning.specs.Base.{half, part, firstBelow}
-use Rattle.meaning.specs.Book.{start, count, nodes, choices, members, choiceKind, mandatoryOf, choicePrompt, memberDue, firstMember, memberCount, choiceOk, recordOk, recordAt, sectionFault, sectionAfter, MembersFit, symbols, spelledName, bookFault, nameOf}
+use Rattle.meaning.specs.Book.{count, nodes, choices, members, choiceKind, mandatoryOf, choicePrompt, memberDue, firstMember, memberCount, choiceOk, recordOk, recordAt, sectionFault, sectionAfter, MembersFit, symbols, spelledName, bookFault, nameOf}
 use Rattle.meaning.proofs.First.{clean-all, when-iff, a-fault}
-
-and-right : (a b : Bool) → a && b ≡ true → b ≡ true
-and-right true b h = h
-and-right false b h = absurd (false≢true h)
 
 -- a list of bytes
 abbrev pub Bytes : List ℕ → Type 0
@@ -29,7 +26,7 @@ choice-ends : (m : List ℕ) (c : ℕ) → choiceOk m c ≡ true → firstMember
 unfolding choiceOk
 choice-ends m c h =
     let before = leb (choiceKind m c) 1 && leb (mandatoryOf m c) 1 && ltb (choicePrompt m c) (nodes m) && eqb (firstMember m c) (memberDue m c) in
-    leb-true _ _ (and-right before (leb (firstMember m c + memberCount m c) (members m)) h)
+    leb-true _ _ (and-elim-right before (leb (firstMember m c + memberCount m c) (members m)) h)
 
 pub members-fit : (m : List ℕ) → Bytes m → firstBelow (sectionAfter m) 6 ≡ Clean → MembersFit m
 unfolding sectionAfter sectionFault recordAt recordOk count

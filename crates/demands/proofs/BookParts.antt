@@ -2,7 +2,8 @@
 -- and records are numbered as the document does, and members count by their index, since well-formed choices take them in order. Assumes nothing.
 use Prim.Native.Nat.{ℕ, zero, suc, _+_, _≤_, _<_}
 use mathlib.Core.Path.{_≡_, refl, sym, _∙_, ap, subst}
-use mathlib.Core.Bool.{Bool, true, false, _&&_, true≢false}
+use mathlib.Core.Bool.{true, false, _&&_, true≢false}
+use mathlib.Mathlib.Data.Bool.Basic.{and-elim-left, and-elim-right, eq-true-of-not-eq-false}
 use mathlib.Core.Logic.{_⊎_, inl, inr, _↔_, _≢_, ⊎-elim, Iff·rfl, Iff·trans}
 use mathlib.Core.List.{List}
 use native.Mathlib.Nat.{not-suc-le-zero, eq-or-lt-of-le, le-of-suc-le-suc}
@@ -15,7 +16,7 @@ use Rattle.meaning.specs.Base.{firstBelow}
 use Rattle.meaning.specs.Book.{total, start, count, endOf, due, symbols, nodes, choices, members, typeOf, choiceKind, mandatoryOf, choicePrompt, firstMember, memberCount, modulesOf, memberDue, choiceOk, memberOk, lengthFault, chainAt, endFault, chainFault, recordOk, recordAt, sectionFault, unusedFault, memberAt, choiceMembersFault, membersFault, sectionAfter, recordsFault, modulesFault, bookFault, WellFormed}
 use Rattle.demands.specs.Broken.{Least}
 use Rattle.demands.specs.Refused.{BadLength, Sized, BadSection, Chained, BadIn, GoodBelow, BadMember, BadRecord, Recorded, BadModules}
-use Rattle.demands.proofs.Bools.{says-unlike, denies-unlike, says-and, says-or, says-not, denies-and, denies-or, denies-not, denies-it, says-lt, denies-lt, says-eq, both}
+use Rattle.demands.proofs.Bools.{says-unlike, denies-unlike, says-and, says-or, says-not, denies-and, denies-or, denies-not, denies-it, says-lt, denies-lt, says-eq}
 use Rattle.demands.proofs.Counts.{order}
 use Rattle.demands.proofs.Faults.{Search, search-when, search-then, search-turn, search-each}
 
@@ -136,7 +137,7 @@ module _ (m : List ℕ) where
         let must = leb (mandatoryOf m c) 1 in
         let prompt = ltb (choicePrompt m c) (nodes m) in
         let first = eqb (firstMember m c) (memberDue m c) in
-        eqb-true (firstMember m c) (memberDue m c) (both (kind && must && prompt) (both (kind && must && prompt && first) ok .0) .1)
+        eqb-true (firstMember m c) (memberDue m c) (and-elim-right (kind && must && prompt) _ (and-elim-left (kind && must && prompt && first) _ ok))
 
     in-order : (c d : ℕ) → c < d → d < choices m → firstMember m c + memberCount m c ≤ firstMember m d
     unfolding memberDue
@@ -195,13 +196,9 @@ module _ (m : List ℕ) where
             b .4,
           ),
           (λ d l i li.
-              is-true (memberOk m d (firstMember m d + i))
+              eq-true-of-not-eq-false
               (λ bad. h .1 .1 (firstMember m d + i) (omega (arith, in-order d c l (b .2), li, b .4)) (d, i, omega (arith, l, b .2), li, refl, bad))),
         )
-      where
-        is-true : (q : Bool) → ¬ (q ≡ false) → q ≡ true
-        is-true true f = refl
-        is-true false f = absurd (f refl)
 
   records-search : Search (recordsFault m) (Recorded m) (λ n p s. BadRecord m p s × (n ≡ 3))
   unfolding recordsFault unusedFault membersFault Raw

@@ -15,14 +15,6 @@ Says b P = (b ≡ true) ↔ P
 abbrev pub Denies : Bool → Type 0 → Type 0
 Denies b P = (b ≡ false) ↔ P
 
-pub both : (a : Bool) {b : Bool} → a && b ≡ true → (a ≡ true) × (b ≡ true)
-both true e = (refl, e)
-both false e = absurd (false≢true e)
-
-pub or-cases : (a b : Bool) → (a || b) ≡ true → (a ≡ true) ⊎ (b ≡ true)
-or-cases true b h = inl refl
-or-cases false b h = inr h
-
 pub not-both : {A : Type 0} {b : Bool} → b ≡ false → b ≡ true → A
 not-both f t = absurd (false≢true (sym f ∙ t))
 

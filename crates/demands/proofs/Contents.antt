@@ -1,7 +1,7 @@
 -- Contents compared and put in a range: each test of the rules says what Valid says, kind by kind. Assumes nothing.
 use Prim.Native.Nat.{ℕ, _≤_}
-use mathlib.Core.Path.{_≡_, refl, ap, ap₂}
-use mathlib.Core.Bool.{Bool, true, false, false≢true}
+use mathlib.Core.Path.{_≡_, refl, ap}
+use mathlib.Core.Bool.{Bool, true, false, false≢true, and-eq-true-iff}
 use mathlib.Core.Logic.{_⊎_, inl, inr, _↔_, ⊎-elim, Iff·trans}
 use mathlib.Core.List.{List, [], _∷_}
 use native.Mathlib.Omega.{arith}
@@ -15,7 +15,8 @@ use Rattle.meaning.specs.Base.{sameText}
 use Rattle.meaning.specs.Table.{Content, aThree, aText, anInt, aHex, entries, kindOf, readOf, contentIn, contentOf, threeIn, valueOf}
 use Rattle.meaning.specs.Rules.{isEmpty, typeFits, sameInt, sameContent, intIs, hexIs, within}
 use Rattle.meaning.specs.Valid.{Typed, IntRange, HexRange}
-use Rattle.demands.proofs.Bools.{pick-both, says-unlike, Says, says-and, says-or, says-eq, both}
+use Rattle.meaning.proofs.Tests.{same-text}
+use Rattle.demands.proofs.Bools.{pick-both, says-unlike, Says, says-and, says-or, says-eq}
 
 -- THE THREE VALUES: what is read as one is at most y
 pub value-three : (t : List ℕ) (s : ℕ) → valueOf t s ≤ 2
@@ -38,22 +39,15 @@ unfolding sameText
 text-same [] = refl
 text-same (x ∷ a) = rw (eq-eqb x x refl) (text-same a)
 
-same-text : (a b : List ℕ) → sameText a b ≡ true → a ≡ b
-unfolding sameText
-same-text [] [] e = refl
-same-text [] (y ∷ b) e = absurd (false≢true e)
-same-text (x ∷ a) [] e = absurd (false≢true e)
-same-text (x ∷ a) (y ∷ b) e = let h = both (eqb x y) e in ap₂ _∷_ (eqb-true x y (h .0)) (same-text a b (h .1))
-
 int-same : (z : ℤ) → sameInt z z ≡ true
 int-same (pos n) = rw (le-leb n n (omega arith))
 int-same (negsuc n) = rw (le-leb n n (omega arith))
 
 same-int : (a b : ℤ) → sameInt a b ≡ true → a ≡ b
-same-int (pos a) (pos b) e = let h = both (leb a b) e in ap pos (omega (arith, leb-true a b (h .0), leb-true b a (h .1)))
+same-int (pos a) (pos b) e = let h = and-eq-true-iff (leb a b) _ .0 e in ap pos (omega (arith, leb-true a b (h .0), leb-true b a (h .1)))
 same-int (pos a) (negsuc b) e = absurd (false≢true e)
 same-int (negsuc a) (pos b) e = absurd (false≢true e)
-same-int (negsuc a) (negsuc b) e = let h = both (leb b a) e in ap negsuc (omega (arith, leb-true b a (h .0), leb-true a b (h .1)))
+same-int (negsuc a) (negsuc b) e = let h = and-eq-true-iff (leb b a) _ .0 e in ap negsuc (omega (arith, leb-true b a (h .0), leb-true a b (h .1)))
 
 content-same : (v : Content) → sameContent v v ≡ true
 content-same (aThree v) = eq-eqb v v refl
@@ -124,12 +118,12 @@ within-range : (low high v : Content) → within low high v ≡ true → IntRang
 within-range low high (aThree v) e = absurd (false≢true e)
 within-range low high (aText l) e = absurd (false≢true e)
 within-range low high (anInt z) e =
-    let h = both (intIs (λ a. leZ a z) low) e in
+    let h = and-eq-true-iff (intIs (λ a. leZ a z) low) _ .0 e in
     let a = int-is (λ a. leZ a z) low (h .0) in
     let b = int-is (λ b. leZ z b) high (h .1) in
     inl (a .0, b .0, z, a .1, b .1, refl, says-order (a .0) z .0 (a .2), says-order z (b .0) .0 (b .2))
 within-range low high (aHex x) e =
-    let h = both (hexIs (λ a. leb a x) low) e in
+    let h = and-eq-true-iff (hexIs (λ a. leb a x) low) _ .0 e in
     let a = hex-is (λ a. leb a x) low (h .0) in
     let b = hex-is (λ b. leb x b) high (h .1) in
     inr (a .0, b .0, x, a .1, b .1, refl, leb-true (a .0) x (a .2), leb-true x (b .0) (b .2))

@@ -2,7 +2,7 @@
 -- from what its Lower, its Default, its counts and its comparisons say. Assumes nothing.
 use Prim.Native.Nat.{ℕ, _≤_, _<_, max}
 use mathlib.Core.Path.{_≡_, refl, sym, _∙_, subst}
-use mathlib.Core.Bool.{Bool, true, false, _&&_, not}
+use mathlib.Core.Bool.{Bool, true, false, _&&_, not, and-eq-true-iff}
 use mathlib.Core.Logic.{_⊎_, _↔_, _≢_, Iff·trans}
 use mathlib.Core.List.{List, []}
 use native.Mathlib.Omega.{arith}
@@ -15,7 +15,7 @@ use Rattle.meaning.specs.Values.{val, leafOf, nodeValues, lowerOf, defaultOf, d
 use Rattle.meaning.specs.Rules.{typeFits, broken11, broken12, broken13, broken13Content, broken14, broken15, broken16, broken17, broken18, atLeast, someOf, ysOf, msOf, firstYes, otherOf, firstModule}
 use Rattle.meaning.specs.Valid.{At, IsLower, IsThree, IsOther, Member}
 use Rattle.demands.specs.Broken.{typed, lower, upper, default, range, one, kind, mandatory, modules, Least, Holds, Second}
-use Rattle.demands.proofs.Bools.{says-unlike, denies-unlike, Says, Denies, says-and, denies-and, denies-then, denies-it, denies-not, says-lt, denies-lt, says-le, denies-le, says-eq, denies-eq, denies-pos, denies-zero, or-assoc, both}
+use Rattle.demands.proofs.Bools.{says-unlike, denies-unlike, Says, Denies, says-and, denies-and, denies-then, denies-it, denies-not, says-lt, denies-lt, says-le, denies-le, says-eq, denies-eq, denies-pos, denies-zero, or-assoc}
 use Rattle.demands.proofs.Counts.{Some, some-counted, two-counted, count-some, count-two, first-least}
 use Rattle.demands.proofs.Contents.{value-three, says-content, says-typed, says-within}
 use Rattle.demands.proofs.Lower.{lower-is, lower-unique}
@@ -213,7 +213,7 @@ module _ (m t : List ℕ) (c : ℕ) where
   pub second-kind : broken16 p (choiceKind m c) (msOf m t c) ≡ true → Second m t (kind c) (memberOf m c (firstModule m t c))
   unfolding msOf firstModule
   second-kind e =
-      let x = both (ltb 0 p && eqb (choiceKind m c) 0) e in (
+      let x = and-eq-true-iff (ltb 0 p && eqb (choiceKind m c) 0) _ .0 e in (
         firstModule m t c,
         least-says (λ j. says-eq (v j) 1) (first-least (λ j. eqb (v j) 1) n (some-counted (λ k. eqb (v k) 1) n (leb-true 1 (msOf m t c) (x .1)))),
         refl,

@@ -2,7 +2,8 @@
 -- breaks is one whose leaf may stand there and is closed: 10, 14 and 16 cannot be broken. Assumes nothing.
 use Prim.Native.Nat.{ℕ, zero, suc, _≤_, _<_}
 use mathlib.Core.Path.{_≡_, refl, sym, _∙_, ap}
-use mathlib.Core.Bool.{Bool, true, false, _&&_, not, false≢true}
+use mathlib.Core.Bool.{Bool, true, false, _&&_, not, false≢true, and-eq-true-iff}
+use mathlib.Mathlib.Data.Bool.Basic.{and-elim-right}
 use mathlib.Core.List.{List}
 use native.Mathlib.Omega.{arith}
 use lib.Dec.{eqb, ltb}
@@ -19,7 +20,7 @@ use Rattle.meaning.specs.Sets.{has, full, sat, nodeSets}
 use Rattle.meaning.specs.Picks.{In}
 use Rattle.meaning.specs.Clearance.{leafStands, closedOn}
 use Rattle.meaning.specs.Findings.{tableOf}
-use Rattle.demands.proofs.Bools.{both, not-both}
+use Rattle.demands.proofs.Bools.{not-both}
 use Rattle.demands.proofs.Lifts.{each-of, in-small, Is, is-lifts}
 use Rattle.demands.proofs.Relate.{node}
 use Rattle.demands.proofs.Counts.{some-counted}
@@ -123,10 +124,10 @@ module _ (m : List ℕ) (q : ℕ) (wf : WellFormed m) (all : (s : ℕ) → s < s
   good16 c lc =
       good-when _ _ (λ h.
       let p = val ns (choicePrompt m c) in
-      let a = both (ltb 0 p && eqb (choiceKind m c) 0) h in
+      let a = and-eq-true-iff (ltb 0 p && eqb (choiceKind m c) 0) _ .0 h in
       let x = some-counted (λ j. eqb (valueOf t (memberOf m c j)) 1) (memberCount m c) (leb-true 1 _ (a .1)) in
       let i = memberOf m c (x .0) in
-      let s = boolean-member m wf all c (x .0) lc (x .1) (eqb-true (choiceKind m c) 0 (both (ltb 0 p) (a .0) .1)) in
+      let s = boolean-member m wf all c (x .0) lc (x .1) (eqb-true (choiceKind m c) 0 (and-elim-right (ltb 0 p) _ (a .0))) in
       let own : In (full 0) (val vs i) = rw (s .1) at (fits i (s .0)) in
       absurd (full-not-m (val vs i) own (sym (value i) ∙ eqb-true (valueOf t i) 1 (x .2))))
 

@@ -2,16 +2,19 @@
 use Prim.Native.Nat.{ℕ, zero, suc, _≤_, _<_}
 use mathlib.Core.Path.{_≡_, refl, sym, _∙_, ap}
 use mathlib.Core.Bool.{Bool, true, false, _||_, false≢true}
+use mathlib.Mathlib.Data.Bool.Basic.{or-inl, or-inr}
 use mathlib.Core.Logic.{_⊎_, inl, inr, ⊎-elim}
 use native.Mathlib.Nat.{not-suc-le-zero, eq-or-lt-of-le, le-of-suc-le-suc}
 use native.Mathlib.Omega.{arith}
 use lib.Dec.{eqb, ltb}
 use borrow.Author.Tests.{eqb-true, eq-eqb, ne-eqb}
-use Rattle.meaning.specs.Base.{pick, fold, allBelow}
+use Rattle.meaning.specs.Base.{pick, fold}
 use Rattle.meaning.specs.Sets.{has, setOf, only, full, withOne, join, row, pairs, every, least, most, chooseSet, openSets}
 use Rattle.meaning.specs.Picks.{In}
+use Rattle.meaning.proofs.Below.{all-at, all-every}
+use Rattle.meaning.proofs.Tests.{or-cases}
 use Rattle.demands.specs.Paths.{NonEmpty}
-use Rattle.demands.proofs.Bools.{or-cases, both, not-both, pick-cases, pick-both}
+use Rattle.demands.proofs.Bools.{not-both, pick-cases, pick-both}
 
 -- what holds of 0, 1 and 2 holds of each value
 pub each-of : (P : ℕ → Type 0) → P 0 → P 1 → P 2 → (v : ℕ) → v < 3 → P v
@@ -19,13 +22,6 @@ each-of P a b c zero lt = a
 each-of P a b c (suc zero) lt = b
 each-of P a b c (suc (suc zero)) lt = c
 each-of P a b c (suc (suc (suc v))) lt = absurd (omega arith)
-
-or-left : (a b : Bool) → a ≡ true → (a || b) ≡ true
-or-left a b e = rw e
-
-or-right : (a b : Bool) → b ≡ true → (a || b) ≡ true
-or-right true b e = refl
-or-right false b e = e
 
 -- MEMBERS
 pub in-small : (a v : ℕ) → In a v → v < 3
@@ -80,10 +76,10 @@ has-with a w =
     each-of (λ v. has (withOne a w) v ≡ (has a v || eqb w v)) (b .0) (b .1) (b .2)
 
 with-new : (a v : ℕ) → v < 3 → In (withOne a v) v
-with-new a v lt = has-with a v v lt ∙ or-right (has a v) (eqb v v) (eq-eqb v v refl)
+with-new a v lt = has-with a v v lt ∙ or-inr (has a v) (eqb v v) (eq-eqb v v refl)
 
 with-old : (a w v : ℕ) → In a v → In (withOne a w) v
-with-old a w v h = has-with a w v (in-small a v h) ∙ or-left (has a v) (eqb w v) h
+with-old a w v h = has-with a w v (in-small a v h) ∙ or-inl (has a v) (eqb w v) h
 
 with-from : (a w v : ℕ) → In (withOne a w) v → In a v ⊎ (w ≡ v)
 with-from a w v h =
@@ -151,18 +147,6 @@ module _ (f : ℕ → ℕ → ℕ) (b : ℕ) where
     pairs-from z h = below-from z 3 h
 
 -- EVERY PICK
-all-at : (p : ℕ → Bool) (n k : ℕ) → allBelow p n ≡ true → k < n → p k ≡ true
-unfolding allBelow
-all-at p zero k e lt = absurd (not-suc-le-zero lt)
-all-at p (suc n) k e lt =
-    let h = both (allBelow p n) e in
-    ⊎-elim (λ (z : k ≡ n). rw z (h .1)) (λ l. all-at p n k (h .0) l) (eq-or-lt-of-le (le-of-suc-le-suc lt))
-
-all-every : (p : ℕ → Bool) (n : ℕ) → ((k : ℕ) → k < n → p k ≡ true) → allBelow p n ≡ true
-unfolding allBelow
-all-every p zero h = refl
-all-every p (suc n) h = rw (all-every p n (λ k lt. h k (omega arith)), h n (omega arith))
-
 pub every-at : (a : ℕ) (p : ℕ → Bool) (v : ℕ) → every a p ≡ true → In a v → p v ≡ true
 unfolding every
 every-at a p v e h = rw h at (all-at (λ x. pick (has a x) (p x) true) 3 v e (in-small a v h))
@@ -179,10 +163,10 @@ has-join a b =
     each-of (λ v. has (join a b) v ≡ (has a v || has b v)) (c .0) (c .1) (c .2)
 
 join-left : (a b v : ℕ) → In a v → In (join a b) v
-join-left a b v h = has-join a b v (in-small a v h) ∙ or-left (has a v) (has b v) h
+join-left a b v h = has-join a b v (in-small a v h) ∙ or-inl (has a v) (has b v) h
 
 join-right : (a b v : ℕ) → In b v → In (join a b) v
-join-right a b v h = has-join a b v (in-small b v h) ∙ or-right (has a v) (has b v) h
+join-right a b v h = has-join a b v (in-small b v h) ∙ or-inr (has a v) (has b v) h
 
 join-from : (a b v : ℕ) → In (join a b) v → In a v ⊎ In b v
 join-from a b v h = or-cases (has a v) (has b v) (sym (has-join a b v (in-small _ v h)) ∙ h)
@@ -193,8 +177,8 @@ unfolding chooseSet
 choose-in c a r x y z hc ha hr =
     each-of (λ x. In c x → In (chooseSet c a r) (pick (ltb 0 x) y z))
     (λ h. join-right (pick (has c 1 || has c 2) a 0) (pick (has c 0) r 0) z (rw h hr))
-    (λ h. join-left (pick (has c 1 || has c 2) a 0) (pick (has c 0) r 0) y (rw (or-left (has c 1) (has c 2) h) ha))
-    (λ h. join-left (pick (has c 1 || has c 2) a 0) (pick (has c 0) r 0) y (rw (or-right (has c 1) (has c 2) h) ha))
+    (λ h. join-left (pick (has c 1 || has c 2) a 0) (pick (has c 0) r 0) y (rw (or-inl (has c 1) (has c 2) h) ha))
+    (λ h. join-left (pick (has c 1 || has c 2) a 0) (pick (has c 0) r 0) y (rw (or-inr (has c 1) (has c 2) h) ha))
     x (in-small c x hc) hc
 
 pub choose-from :

@@ -2,7 +2,7 @@
 -- that closing reads hold exactly what picks give. Assumes nothing.
 use Prim.Native.Nat.{ℕ, _≤_}
 use mathlib.Core.Path.{_≡_, refl}
-use mathlib.Core.Bool.{Bool, true, false, _&&_, not, false≢true}
+use mathlib.Core.Bool.{Bool, true, false, _&&_, not, false≢true, and-eq-true-iff}
 use mathlib.Core.Logic.{_↔_, ⊎-elim}
 use mathlib.Core.List.{List, []}
 use native.Mathlib.Omega.{arith}
@@ -17,7 +17,6 @@ use Rattle.meaning.specs.Sets.{has, only, fullSets, sat, least, most, nodeSets,
 use Rattle.meaning.specs.Clearance.{closed11, closed12, closed13, closed15, closed17, closed18, closed20, closed, closedOn}
 use Rattle.meaning.specs.Picks.{Picks, In, Allowed, lowerPicked, defaultPicked, brokenPicked, Closed}
 use Rattle.demands.specs.Paths.{Path, whole, split, NonEmpty, NonEmptySets}
-use Rattle.demands.proofs.Bools.{both}
 use Rattle.demands.proofs.Lifts.{in-small, only-in, full-n, every-at, every-all, least-le, le-most, least-in, most-in, HasValue, has-value-lifts}
 use Rattle.demands.proofs.Relate.{set-rel, node}
 use Rattle.demands.proofs.Tabulated.{full-at, full-past}
@@ -202,7 +201,7 @@ module _ (m : List ℕ) (q : ℕ) (ys ss : List ℕ) (place : ℕ) where
     unfolding picksOf at-symbol
     both18 h o v ho hv =
         let c = at-symbol (v, hv) (node (promptOf m place)) (o, ho) anySelector anyCondition anyApplies anyValue in
-        both (modulesDeclared m) (h (c .0) (c .1))
+        and-eq-true-iff (modulesDeclared m) _ .0 (h (c .0) (c .1))
 
     under18 : Under18 → closed18 m q ys ss place ≡ true
     unfolding closed18

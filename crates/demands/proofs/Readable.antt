@@ -3,6 +3,7 @@
 use Prim.Native.Nat.{ℕ, zero, suc, _+_, _*_, _≤_}
 use mathlib.Core.Path.{_≡_, refl}
 use mathlib.Core.Bool.{_&&_}
+use mathlib.Mathlib.Data.Bool.Basic.{and-elim-left, and-elim-right}
 use mathlib.Core.Logic.{_⊎_, inl, inr, _↔_, ⊎-elim, Iff·rfl, Iff·trans}
 use mathlib.Core.List.{List}
 use native.Mathlib.Omega.{arith}
@@ -14,7 +15,7 @@ use Rattle.meaning.specs.Base.{half, firstBelow}
 use Rattle.meaning.specs.Table.{entries, kindOf, lengthOf, startOf, bodyDue, lengthFits, entryOk, contentsFault, entryAt, bodiesFault, tableFault, Readable}
 use Rattle.demands.specs.Broken.{Least}
 use Rattle.demands.specs.Refused.{BadContents, GoodContents, BadEntry, GoodEntries, BytesLeft}
-use Rattle.demands.proofs.Bools.{says-unlike, denies-unlike, says-or, says-not, denies-or, denies-not, says-lt, denies-lt, or-four, both}
+use Rattle.demands.proofs.Bools.{says-unlike, denies-unlike, says-or, says-not, denies-or, denies-not, says-lt, denies-lt, or-four}
 use Rattle.demands.proofs.Faults.{Search, search-when, search-then, search-each}
 
 module _ (t : List ℕ) (n : ℕ) where
@@ -48,7 +49,7 @@ module _ (t : List ℕ) (n : ℕ) where
       let fits = lengthFits (kindOf t s) (lengthOf t s) in
       let starts = eqb (startOf t s) (bodyDue t n s) in
       let stops = leb (startOf t s + lengthOf t s) (length t) in
-      leb-true (startOf t s + lengthOf t s) (length t) (both (fits && starts) (both (fits && starts && stops) (good s le) .0) .1)
+      leb-true (startOf t s + lengthOf t s) (length t) (and-elim-right (fits && starts) _ (and-elim-left (fits && starts && stops) _ (good s le)))
 
   abbrev pub BadTable : ℕ → ℕ → ℕ → Type 0
   BadTable k p s =

@@ -2,7 +2,7 @@
 -- one leaf's path, and that leaf is closed; it is of no rule that the table breaks, so it is a 20. Assumes nothing.
 use Prim.Native.Nat.{ℕ, _<_}
 use mathlib.Core.Path.{_≡_, refl, sym, _∙_, subst}
-use mathlib.Core.Bool.{Bool, true, false, false≢true}
+use mathlib.Core.Bool.{Bool, true, false, false≢true, and-eq-true-iff}
 use mathlib.Core.List.{List}
 use lib.Dec.{eqb, ltb}
 use borrow.Author.Tests.{eqb-true, ltb-true, not-true, not-false}
@@ -18,7 +18,7 @@ use Rattle.meaning.specs.Picks.{In, brokenPicked, Closed}
 use Rattle.meaning.specs.Clearance.{leafStands}
 use Rattle.meaning.specs.Findings.{selectOf, clearanceFault}
 use Rattle.meaning.proofs.First.{IsClean, orElse-iff, when-iff, a-fault, clean-all}
-use Rattle.demands.proofs.Bools.{pick-cases, both, not-both}
+use Rattle.demands.proofs.Bools.{pick-cases, not-both}
 use Rattle.demands.proofs.Lifts.{in-lifts}
 use Rattle.demands.proofs.Relate.{node}
 use Rattle.demands.proofs.Readable.{readable-iff}
@@ -86,7 +86,7 @@ module _ (m t : List ℕ) (readable : tableFault t (symbols m) ≡ Clean) (clean
 
       at-symbol : leafStands m q 11 place ≡ true → (place < symbols m) × (threeType m place ≡ true)
       unfolding leafStands
-      at-symbol h = let b = both (ltb place (symbols m)) h in (ltb-true place (symbols m) (b .0), b .1)
+      at-symbol h = let b = and-eq-true-iff (ltb place (symbols m)) _ .0 h in (ltb-true place (symbols m) (b .0), b .1)
 
       at-choice : leafStands m q 15 place ≡ true → place < choices m
       unfolding leafStands

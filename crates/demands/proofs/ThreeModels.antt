@@ -2,7 +2,8 @@
 -- choice has boolean members: each record's own check says so. Assumes nothing.
 use Prim.Native.Nat.{ℕ, _≤_, _<_}
 use mathlib.Core.Path.{_≡_, refl}
-use mathlib.Core.Bool.{Bool, true, false, _&&_, _||_, not}
+use mathlib.Core.Bool.{Bool, true, false, _&&_, _||_, not, and-eq-true-iff}
+use mathlib.Mathlib.Data.Bool.Basic.{and-elim-left, and-elim-right}
 use mathlib.Core.Logic.{⊎-elim}
 use mathlib.Core.List.{List}
 use native.Mathlib.Omega.{arith}
@@ -10,7 +11,7 @@ use lib.Dec.{eqb, ltb}
 use borrow.Author.Tests.{eqb-true, ltb-true, leb-true, le-leb}
 use Rattle.meaning.specs.Book.{symbols, nodes, ranges, choices, typeOf, threeType, opOf, leftOf, rightOf, zeroOf, isLeaf, leafFits, nodeFits, nodeOk, rangeSymbol, choiceKind, memberCount, memberOf, memberOk, WellFormed}
 use Rattle.meaning.specs.Sets.{isFree}
-use Rattle.demands.proofs.Bools.{both, or-cases}
+use Rattle.meaning.proofs.Tests.{or-cases}
 use Rattle.demands.proofs.ValidIff.{range-on}
 use Rattle.demands.proofs.Relate.{IsEquality}
 
@@ -20,7 +21,7 @@ module _ (m : List ℕ) (wf : WellFormed m) (all : (s : ℕ) → s < symbols m �
 
   fits : (i : ℕ) → i < nodes m → nodeFits m i (opOf m i) (leftOf m i) (rightOf m i) ≡ true
   unfolding nodeOk
-  fits i lt = both (eqb (zeroOf m i) 0) (wf .node i lt) .1
+  fits i lt = and-elim-right (eqb (zeroOf m i) 0) _ (wf .node i lt)
 
   not-free : (i : ℕ) → i < nodes m → isFree m i ≡ false
   unfolding isFree nodeFits leafFits
@@ -29,7 +30,7 @@ module _ (m : List ℕ) (wf : WellFormed m) (all : (s : ℕ) → s < symbols m �
       by : (b : Bool) → eqb (opOf m i) 1 ≡ b → (b && not (threeType m (leftOf m i))) ≡ false
       by true e =
           let h = rw (eqb-true (opOf m i) 1 e) at (fits i lt) in
-          rw (all-three (leftOf m i) (ltb-true (leftOf m i) (symbols m) (both (ltb (leftOf m i) (symbols m)) h .0)))
+          rw (all-three (leftOf m i) (ltb-true (leftOf m i) (symbols m) (and-elim-left (ltb (leftOf m i) (symbols m)) _ h)))
       by false e = refl
 
   pub no-free : (i : ℕ) → i < nodes m → IsEquality m i → (isFree m (leftOf m i) || isFree m (rightOf m i)) ≡ false
@@ -37,9 +38,9 @@ module _ (m : List ℕ) (wf : WellFormed m) (all : (s : ℕ) → s < symbols m �
   no-free i lt is =
       let leaves : (ltb l i && ltb r i && isLeaf m l && isLeaf m r) ≡ true =
       ⊎-elim (λ (e : opOf m i ≡ 8). rw e at (fits i lt)) (λ (e : opOf m i ≡ 9). rw e at (fits i lt)) is in
-      let a = both (ltb l i && ltb r i && isLeaf m l) leaves .0 in
-      let b = both (ltb l i && ltb r i) a .0 in
-      let c = both (ltb l i) b in
+      let a = and-elim-left (ltb l i && ltb r i && isLeaf m l) _ leaves in
+      let b = and-elim-left (ltb l i && ltb r i) _ a in
+      let c = and-eq-true-iff (ltb l i) _ .0 b in
       rw (not-free l (omega (arith, ltb-true l i (c .0))), not-free r (omega (arith, ltb-true r i (c .1))))
     where
       l : ℕ
@@ -60,6 +61,6 @@ module _ (m : List ℕ) (wf : WellFormed m) (all : (s : ℕ) → s < symbols m �
   unfolding memberOk
   boolean-member c j lc lj kind =
       let s = memberOf m c j in
-      let a = both _ (wf .member c j lc lj) .0 in
-      let b = both (ltb s (symbols m)) a in
+      let a = and-elim-left _ _ (wf .member c j lc lj) in
+      let b = and-eq-true-iff (ltb s (symbols m)) _ .0 a in
       (ltb-true s (symbols m) (b .0), omega (arith, kind, leb-true (typeOf m s) (choiceKind m c) (b .1)))

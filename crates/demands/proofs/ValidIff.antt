@@ -2,7 +2,8 @@
 -- places at once. A range that the book's check passed is on a symbol, so its symbol is listed. Assumes nothing.
 use Prim.Native.Nat.{ℕ, _<_}
 use mathlib.Core.Path.{_≡_, refl}
-use mathlib.Core.Bool.{Bool, true, false, _||_}
+use mathlib.Core.Bool.{Bool, true, false, _||_, and-eq-true-iff}
+use mathlib.Mathlib.Data.Bool.Basic.{and-elim-left}
 use mathlib.Core.Logic.{_⊎_, inl, inr, _↔_, _≢_, ⊎-elim, Iff·trans, Iff·symm}
 use mathlib.Core.List.{List, [], _∷_}
 use native.Mathlib.Omega.{arith}
@@ -15,7 +16,6 @@ use Rattle.meaning.specs.Table.{valueOf}
 use Rattle.meaning.specs.Rules.{ruleFault}
 use Rattle.meaning.specs.Valid.{Valid}
 use Rattle.demands.specs.Broken.{Spot, typed, lower, upper, default, range, one, kind, mandatory, modules, inTurn, atSymbol, atChoice, listed, All, Holds}
-use Rattle.demands.proofs.Bools.{both}
 use Rattle.demands.proofs.Finds.{all-append, all-turn, first-none}
 use Rattle.demands.proofs.Searched.{rules-found}
 
@@ -133,7 +133,7 @@ pub range-on : (m : List ℕ) (r : ℕ) → rangeOk m r ≡ true
     → (rangeSymbol m r < symbols m) × ((eqb (typeOf m (rangeSymbol m r)) 3 || eqb (typeOf m (rangeSymbol m r)) 4) ≡ true)
 unfolding rangeOk
 range-on m r e =
-    let h = both (ltb (rangeSymbol m r) (symbols m)) (both _ (both _ (both _ e .0) .0) .0) in
+    let h = and-eq-true-iff (ltb (rangeSymbol m r) (symbols m)) _ .0 (and-elim-left _ _ (and-elim-left _ _ (and-elim-left _ _ e))) in
     (ltb-true (rangeSymbol m r) (symbols m) (h .0), h .1)
 
 -- VALID, rule by rule and place by place

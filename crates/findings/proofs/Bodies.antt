@@ -1,18 +1,16 @@
 -- A finding's body: where a witness or a clearance is judged, each from the parts that its code works out. Assumes nothing.
-use mathlib.Core.Path.{_≡_, refl, sym, _∙_, ap}
-use mathlib.Core.Bool.{Bool, true, false, not}
-use mathlib.Core.List.{List, [], _++_, append-nil}
-use Prim.Native.Nat.{ℕ, _+_, _-_, _≤_, _<_}
+use mathlib.Core.Path.{_≡_, _∙_, ap}
+use mathlib.Core.Bool.{Bool, true, not}
+use mathlib.Core.List.{List, _++_, append-nil}
+use Prim.Native.Nat.{ℕ, _-_, _≤_, _<_}
 use native.Mathlib.Omega.{arith}
-use lib.Dec.{eqb, ltb}
-use lib.ListN.{length, getD, take, drop, length-drop, drop-of-length-le}
-use lib.Seq.{take-all}
+use lib.Dec.{eqb}
+use lib.ListN.{length, getD, take, drop, drop-of-length-le}
 use borrow.Author.Tests.{eq-eqb, ne-eqb, lt-ltb, le-ltb}
 use Rattle.meaning.specs.declared.Outcome.{Outcome}
 use Rattle.meaning.specs.declared.Outcome.the-variants.{Clean, Fault}
-use Rattle.meaning.specs.declared.Walked.{Walked}
 use Rattle.meaning.specs.declared.Walked.the-variants.{Next}
-use Rattle.meaning.specs.Base.{pick, half, when, orElse}
+use Rattle.meaning.specs.Base.{half, when}
 use Rattle.meaning.specs.Book.{symbols, nodes}
 use Rattle.meaning.specs.Table.{tableFault}
 use Rattle.meaning.specs.Values.{nodeValue, nodeValues}
@@ -21,6 +19,7 @@ use Rattle.meaning.specs.Sets.{fullSets}
 use Rattle.meaning.specs.Findings.{selectOf, findingKind, witnessTable, witnessFault, walkFault, clearanceFault, bodyFault}
 use Rattle.meaning.proofs.First.{first-fault, first-clean}
 use Rattle.meaning.proofs.Folds.{build-length}
+use Rattle.raw.proofs.Laws.{rest-all}
 use Rattle.findings.specs.Walks.{decoded, walked}
 
 -- A WITNESS
@@ -82,4 +81,4 @@ module _ (m f : List ℕ) {k : ℕ} {r : Outcome} (ek : k ≡ getD f 2 0) where
 -- the part behind the head
 pub table-is : (f : List ℕ) → take (length f - 4) (drop 4 f) ≡ witnessTable f
 unfolding witnessTable
-table-is f = take-all (length f - 4) (drop 4 f) (rw (length-drop 4 f) (omega arith))
+table-is f = rest-all f 4

@@ -1,6 +1,7 @@
 -- What the finding check owes, from each place where it answers. Assumes nothing.
-use mathlib.Core.Path.{_≡_, refl, sym, _∙_, ap}
-use mathlib.Core.Bool.{Bool, true, false, true≢false, _||_, not}
+use mathlib.Core.Path.{_≡_, refl, sym, _∙_}
+use mathlib.Core.Bool.{_||_, not}
+use mathlib.Mathlib.Data.Bool.Basic.{or-eq-false-eq-eq-false-and-eq-false as neither}
 use mathlib.Core.List.{List, _++_}
 use Prim.Native.Nat.{ℕ, _-_, _≤_, _<_}
 use native.Mathlib.Omega.{arith}
@@ -10,7 +11,7 @@ use lib.Seq.{length-take-le}
 use borrow.Author.Tests.{lt-ltb, le-ltb, ltb-false}
 use Rattle.meaning.specs.declared.Outcome.{Outcome}
 use Rattle.meaning.specs.declared.Outcome.the-variants.{Clean, Fault}
-use Rattle.meaning.specs.Base.{half, when, orElse, ifClean}
+use Rattle.meaning.specs.Base.{when}
 use Rattle.meaning.specs.Book.{symbols, nodes, selects, bookFault}
 use Rattle.meaning.specs.Rules.{nodeRoomFault}
 use Rattle.meaning.specs.Findings.{selectOf, findingKind, headFault, symbolRoomFault, findingRefusal, bodyFault, findingOutcome, zeroed, findingNodeWork, findingSymbolWork}
@@ -18,10 +19,6 @@ use Rattle.meaning.proofs.First.{a-fault, first-fault, first-clean, when-iff}
 use Rattle.findings.specs.Found.{Found}
 
 -- a head that stands has a length that does
-neither : (a b : Bool) → (a || b) ≡ false → (a ≡ false) × (b ≡ false)
-neither true b e = absurd (true≢false e)
-neither false b e = (refl, e)
-
 pub head-lengths : (m f : List ℕ) {h : Outcome} → h ≡ headFault m f → h ≡ Clean → (4 ≤ length f) × (length f < 65536)
 unfolding headFault
 head-lengths m f eh ch =
@@ -31,10 +28,10 @@ head-lengths m f eh ch =
     let kind = ltb 1 (findingKind f) in
     let zero-byte = not (eqb (getD f 3 0) 0) in
     let e = when-iff (short || long || select || kind || zero-byte) _ (a-fault 21 0 65535) .0 (sym eh ∙ ch) in
-    let d = neither (short || long || select || kind) zero-byte e .0 in
-    let c = neither (short || long || select) kind d .0 in
-    let b = neither (short || long) select c .0 in
-    let a = neither short long b in
+    let d = neither (short || long || select || kind) zero-byte .0 e .0 in
+    let c = neither (short || long || select) kind .0 d .0 in
+    let b = neither (short || long) select .0 c .0 in
+    let a = neither short long .0 b in
     (ltb-false (length f) 4 (a .0), omega (arith, ltb-false 65535 (length f) (a .1)))
 
 -- REFUSED up to 8: the outcome is the refusal, and both rooms stay

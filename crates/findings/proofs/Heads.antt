@@ -1,6 +1,6 @@
 -- What stands at an offset, test by test, and what it owes where it is a leaf. Assumes nothing.
-use mathlib.Core.Path.{_≡_, refl, sym, _∙_, ap}
-use mathlib.Core.Bool.{Bool, true, false, false≢true, _&&_}
+use mathlib.Core.Path.{_≡_}
+use mathlib.Core.Bool.{Bool, true, false, _&&_}
 use mathlib.Core.List.{List}
 use Prim.Native.Nat.{ℕ, _+_, _≤_, _<_}
 use lib.Dec.{eqb, leb}
@@ -11,10 +11,6 @@ use Rattle.meaning.specs.Base.{pick, half}
 use Rattle.meaning.specs.Sets.{sat}
 use Rattle.meaning.specs.Clearance.{leafStands, leafHead, splitHead, headOf}
 use Rattle.findings.specs.Walks.{StandsIn}
-
-pub both-true : (a b : Bool) → (a && b) ≡ true → b ≡ true
-both-true true b e = e
-both-true false b e = absurd (false≢true e)
 
 module _ (m : List ℕ) (q : ℕ) (f ys : List ℕ) (at : ℕ) {mark : ℕ} (em : mark ≡ getD f at 0) where
   pub head-leaf : {rule place : ℕ} {r : Head} → eqb mark 1 && leb (at + 4) (length f) ≡ true → rule ≡ getD f (at + 1) 0

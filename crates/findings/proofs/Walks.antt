@@ -1,7 +1,7 @@
 -- The walk, a step at a time: a leaf, what stops, what is no split, and a split's branches in turn. Assumes nothing.
 use mathlib.Core.Path.{_≡_, refl, sym, _∙_, ap}
 use mathlib.Core.Logic.{_⊎_, inl, inr, ⊎-elim}
-use mathlib.Core.Bool.{Bool, true, false, true≢false, _&&_, _||_}
+use mathlib.Core.Bool.{Bool, true, false, true≢false, _&&_, _||_, and-eq-true-iff}
 use mathlib.Core.List.{List, [], _∷_}
 use Prim.Native.Nat.{ℕ, zero, suc, _+_, _-_, _≤_, _<_}
 use native.Mathlib.Omega.{arith}
@@ -21,7 +21,8 @@ use Rattle.meaning.specs.Sets.{has, only, sat}
 use Rattle.meaning.specs.Clearance.{closedOn, leafStands, leafHead, splitHead, headOf, onHead, walkOf}
 use Rattle.meaning.specs.Findings.{selectOf}
 use Rattle.meaning.proofs.Folds.{fold-none, fold-more}
-use Rattle.findings.specs.Walks.{decoded, walked, splitsAt, turn, branches, StandsIn}
+use Rattle.meaning.proofs.Tests.{or-cases}
+use Rattle.findings.specs.Walks.{decoded, walked, splitsAt, branches, StandsIn}
 
 -- NUMBERS for where a walk stands
 pub on-going : (c : ℕ) → c < 65536 → decoded c ≡ Next c
@@ -118,15 +119,6 @@ no-split m f ys zero at es t = refl
 no-split m f ys (suc k) at es t = alike m (selectOf f) f ys at (λ w zs. Malformed at) (walkOf m (selectOf f) f k) (sym es ∙ (rw (lt-ltb 0 (suc k) (omega arith)) at t))
 
 -- A SPLIT: its head, and its branches in turn
-pub both : (a b : Bool) → (a && b) ≡ true → (a ≡ true) × (b ≡ true)
-both true true e = (refl, refl)
-both true false e = absurd (true≢false (sym e))
-both false b e = absurd (true≢false (sym e))
-
-one-of : (a b : Bool) → (a || b) ≡ true → (a ≡ true) ⊎ (b ≡ true)
-one-of true b e = inl refl
-one-of false b e = inr e
-
 module _ (m f ys : List ℕ) (at : ℕ) (on : splitsAt f ys at ≡ true) where
   set-there : ℕ
   set-there = sat ys (half f (at + 1))
@@ -134,9 +126,9 @@ module _ (m f ys : List ℕ) (at : ℕ) (on : splitsAt f ys at ≡ true) where
   tests : (getD f at 0 ≡ 0) × (leb (at + 3) (length f) ≡ true) × ((set-there ≡ 5) ⊎ (set-there ≡ 7))
   unfolding splitsAt set-there
   tests =
-      let x = both (eqb (getD f at 0) 0 && leb (at + 3) (length f)) (eqb set-there 5 || eqb set-there 7) on in
-      let y = both (eqb (getD f at 0) 0) (leb (at + 3) (length f)) (x .0) in
-      (eqb-true (getD f at 0) 0 (y .0), y .1, ⊎-elim (λ e. inl (eqb-true set-there 5 e)) (λ e. inr (eqb-true set-there 7 e)) (one-of (eqb set-there 5) (eqb set-there 7) (x .1)))
+      let x = and-eq-true-iff (eqb (getD f at 0) 0 && leb (at + 3) (length f)) (eqb set-there 5 || eqb set-there 7) .0 on in
+      let y = and-eq-true-iff (eqb (getD f at 0) 0) (leb (at + 3) (length f)) .0 (x .0) in
+      (eqb-true (getD f at 0) 0 (y .0), y .1, ⊎-elim (λ e. inl (eqb-true set-there 5 e)) (λ e. inr (eqb-true set-there 7 e)) (or-cases (eqb set-there 5) (eqb set-there 7) (x .1)))
 
   pub in-finding : at + 3 ≤ length f
   in-finding = leb-true (at + 3) (length f) (tests .1)

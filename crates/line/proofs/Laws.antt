@@ -3,9 +3,9 @@ use mathlib.Core.Path.{_≡_, refl, sym, _∙_, ap}
 use mathlib.Core.Bool.{Bool, true, false, _&&_, _||_}
 use lib.Dec.{eqb, leb, ltb}
 use mathlib.Core.List.{List, [], _∷_, _++_, append-assoc}
-use Prim.Native.Nat.{ℕ, zero, suc, _+_, _-_, _*_, _≤_, _<_}
+use Prim.Native.Nat.{ℕ, _+_, _-_, _*_, _≤_, _<_}
 use native.Mathlib.Omega.{arith}
-use lib.ListN.{length, getD, set, take, drop, length-set, length-append, length-drop, drop-of-length-le}
+use lib.ListN.{length, getD, set, take, drop, length-set, length-append, length-take, length-drop, drop-of-length-le}
 use lib.Seq.{take-all, length-take-le, take-at, drop-at, drop-drop, paste, length-paste, paste-suc}
 use native.Mathlib.Numerals.{add-one}
 use borrow.Author.Tests.{lt-ltb, le-ltb}
@@ -17,6 +17,7 @@ use Rattle.meaning.specs.Book.{nameOf, byteIn, bookFault, symbols, start, width
 use Rattle.meaning.specs.Rules.{nodeWork}
 use Rattle.meaning.specs.Program.{modelLength, modelPart, tablePart, offender, orDash, decimal, programOutcome, lineWith, lineOf}
 use Rattle.meaning.specs.Spell.{digits}
+use Rattle.spell.proofs.Laws.{rest-of}
 use Rattle.rules.specs.Checked.{Checked}
 use Rattle.line.specs.Written.{Written, Lined}
 use Rattle.line.specs.Numbers.{threeNumbers}
@@ -33,15 +34,7 @@ long-model i le e = rw (le-ltb (length i) 2 le) e
 pub rest-past : (s : List ℕ) (at : ℕ) → length s ≤ at → [] ≡ drop at s
 rest-past s at h = sym (drop-of-length-le s h)
 
-pub rest-on : (s : List ℕ) (at : ℕ) → take (length s - at) (drop at s) ≡ drop at s
-rest-on s at = take-all (length s - at) (drop at s) (omega (arith, length-drop at s))
-
 -- A NAME is no longer than a byte counts
-take-short : (n : ℕ) (l : List ℕ) → length (take n l) ≤ n
-take-short zero l = omega arith
-take-short (suc n) [] = omega arith
-take-short (suc n) (x ∷ l) = omega (arith, take-short n l)
-
 either-short : (o : Outcome) (q : Bool) (l : List ℕ) → length l < 256 → length (ifClean o (pick q l []) []) < 256
 either-short Clean true l h = h
 either-short Clean false l h = omega arith
@@ -54,7 +47,7 @@ module _ (m : List ℕ) (small : (i : ℕ) → getD m i 0 < 256) where
 
   spelled-short : (s : ℕ) → length (spelledName m s) < 256
   unfolding part
-  spelled-short s = omega (arith, take-short (nameLength m s) (drop (nameStart m s) m), field-small 1 s 1)
+  spelled-short s = omega (arith, length-take (nameLength m s) (drop (nameStart m s) m), field-small 1 s 1)
 
   pub short-name : (s : ℕ) {l : List ℕ} → l ≡ nameOf m s → (l ≡ nameOf m s) × (length l < 256)
   unfolding nameOf
@@ -107,10 +100,7 @@ module _ (o : List ℕ) (at : ℕ) {x : List ℕ} {r : ℕ} {a : List ℕ} (le :
 
 -- THE PARTS OF THE LINE. A number and a space, where the digits end a buffer of 14 bytes and leave two before them
 pub digits-short : (at : ℕ) (d : List ℕ) → 2 ≤ at → length (take (14 - at) (drop at d)) ≤ 12
-digits-short at d two = omega (arith, take-short (14 - at) (drop at d))
-
-all-digits : (at : ℕ) (d : List ℕ) → length d ≡ 14 → take (14 - at) (drop at d) ≡ drop at d
-all-digits at d e = take-all (14 - at) (drop at d) (omega (arith, length-drop at d))
+digits-short at d two = omega (arith, length-take (14 - at) (drop at d))
 
 abbrev Spelled : ℕ → List ℕ → ℕ → Type 0
 Spelled at d v = (2 ≤ at) × (at ≤ 14) × (length d ≡ 14) × (drop at d ≡ digits 10 12 v [])
@@ -122,7 +112,7 @@ pub number-written : (o : List ℕ) (at v from : ℕ) (d : List ℕ) {e r : ℕ}
 unfolding decimal
 number-written o at v from d fits s w x =
     let short = digits-short from d (s .0) in
-    let same : take (14 - from) (drop from d) ≡ digits 10 12 v [] = all-digits from d (s .2) ∙ s .3 in
+    let same : take (14 - from) (drop from d) ≡ digits 10 12 v [] = rest-of d from (s .2) ∙ s .3 in
     (rw same at (behind o at (omega (arith, fits, short, w .ends)) w (32 ∷ []) x), omega (arith, short, w .ends, x .ends))
 
 -- three numbers

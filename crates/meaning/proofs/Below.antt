@@ -1,21 +1,30 @@
--- Tests over the numbers below n, and counts of them: what a loop over them shows at each turn. Assumes nothing.
-use mathlib.Core.Path.{_≡_, refl, sym, _∙_}
+-- Tests over the numbers below n, and counts of them: what they say of each, and what a loop over them shows at each turn. Assumes nothing.
+use mathlib.Core.Path.{_≡_, refl, sym}
 use mathlib.Core.Logic.{⊎-elim}
-use mathlib.Core.Bool.{Bool, true, false, _&&_}
+use mathlib.Core.Bool.{Bool, true, false, and-false, and-eq-true-iff}
 use Prim.Native.Nat.{ℕ, zero, suc, _+_, _≤_, _<_}
-use native.Mathlib.Nat.{eq-or-lt-of-le, le-of-suc-le-suc}
+use native.Mathlib.Nat.{eq-or-lt-of-le, le-of-suc-le-suc, not-suc-le-zero}
 use native.Mathlib.Omega.{arith}
 use native.Mathlib.Numerals.{add-one}
 use borrow.Author.Tests.{eq-eqb, ne-eqb}
 use Rattle.meaning.specs.Base.{pick, fold, allBelow, firstWhere, countBelow}
 use Rattle.meaning.proofs.Folds.{fold-none, fold-more}
 
-and-false : (b : Bool) → b && false ≡ false
-and-false true = refl
-and-false false = refl
-
--- ALL: before the first turn, after a turn that passed, and where one failed
+-- ALL: what holds of each
 module _ (p : ℕ → Bool) where
+  pub all-at : (n k : ℕ) → allBelow p n ≡ true → k < n → p k ≡ true
+  unfolding allBelow
+  all-at zero k e lt = absurd (not-suc-le-zero lt)
+  all-at (suc n) k e lt =
+      let h = and-eq-true-iff (allBelow p n) (p n) .0 e in
+      ⊎-elim (λ (z : k ≡ n). rw z (h .1)) (λ l. all-at n k (h .0) l) (eq-or-lt-of-le (le-of-suc-le-suc lt))
+
+  pub all-every : (n : ℕ) → ((k : ℕ) → k < n → p k ≡ true) → allBelow p n ≡ true
+  unfolding allBelow
+  all-every zero h = refl
+  all-every (suc n) h = rw (all-every n (λ k lt. h k (omega arith)), h n (omega arith))
+
+  -- before the first turn, after a turn that passed, and where one failed
   pub all-none : allBelow p 0 ≡ true
   unfolding allBelow
   all-none = refl

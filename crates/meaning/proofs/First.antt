@@ -40,12 +40,6 @@ unfolding orElse
 orElse-iff Clean b = (λ h. (refl, h), λ h. h .1)
 orElse-iff (Fault n p s) b = (λ h. absurd (a-fault n p s h), λ h. h .0)
 
--- of two searches in turn, the first fault is the first's, or the first is clean and it is the second's
-pub orElse-first : (a b : Outcome) → IsFault (orElse a b) → (IsFault a × (orElse a b ≡ a)) ⊎ (IsClean a × IsFault b × (orElse a b ≡ b))
-unfolding orElse
-orElse-first Clean b f = inr (refl, f, refl)
-orElse-first (Fault n p s) b f = inl (f, refl)
-
 -- a test that holds gives its fault; one that does not, none
 pub when-iff : (b : Bool) (a : Outcome) → IsFault a → IsClean (when b a) ↔ (b ≡ false)
 unfolding when

@@ -1,14 +1,11 @@
--- Step by step: what a loop shows of `fold`, and of a room that is filled with `build`, at each turn. Assumes nothing.
-use mathlib.Core.Path.{_≡_, refl, sym, _∙_, ap}
+-- Step by step: what a loop shows of `fold`, and of a room that is filled with `build` or tabulated, at each turn. Assumes nothing.
+use mathlib.Core.Path.{_≡_, refl, _∙_, ap}
 use mathlib.Core.List.{List, [], _∷_, _++_}
-use mathlib.Core.Logic.{⊎-elim}
-use Prim.Native.Nat.{ℕ, zero, suc, _+_, _≤_, _<_}
-use native.Mathlib.Nat.{not-suc-le-zero, eq-or-lt-of-le, le-of-suc-le-suc}
-use native.Mathlib.Omega.{arith}
+use Prim.Native.Nat.{ℕ, zero, suc, _+_, _<_}
 use native.Mathlib.Numerals.{add-one}
-use lib.ListN.{length, getD, take, drop, set, length-append, List·getD-append}
-use lib.Seq.{getD-at, drop-cons, take-at, set-at, append-snoc}
-use Rattle.meaning.specs.Base.{fold, build}
+use lib.ListN.{length, take, drop, set, length-append}
+use lib.Seq.{drop-cons, take-at, set-at, append-snoc}
+use Rattle.meaning.specs.Base.{fold, tabulate, build}
 
 module _ {A : Type 0} (step : ℕ → A → A) (none : A) where
   pub fold-none : none ≡ fold step none 0
@@ -37,3 +34,13 @@ module _ (f : List ℕ → ℕ → ℕ) where
       let l = build-length k in
       let p : v ≡ f (build f k) k = rw (e, take-at (build f k) (drop k w) k l) at ev in
       rw (e, add-one, drop-cons w k 0 h, set-at (build f k) _ _ v k l, append-snoc, p)
+
+-- a list that is tabulated is one built with no look at what stands before
+module _ (g : ℕ → ℕ) where
+  pub tabulate-build : (n : ℕ) → tabulate g n ≡ build (λ vs. g) n
+  unfolding tabulate build
+  tabulate-build zero = refl
+  tabulate-build (suc n) = ap (λ (l : List ℕ). l ++ (g n ∷ [])) (tabulate-build n)
+
+  pub tabulate-length : (n : ℕ) → length (tabulate g n) ≡ n
+  tabulate-length n = ap length (tabulate-build n) ∙ build-length (λ vs. g) n

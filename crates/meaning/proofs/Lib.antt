@@ -1,3 +1,4 @@
 pub mod First
 pub mod Folds
 pub mod Below
+pub mod Tests

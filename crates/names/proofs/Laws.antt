@@ -1,19 +1,21 @@
 -- Keys of parts of the book, links from each name of a block to the one before it of its link, and what a walk along them shows. Assumes nothing.
 use mathlib.Core.Path.{_≡_, refl, sym, _∙_, ap}
 use mathlib.Core.Bool.{Bool, true, false, _&&_, not, true≢false}
-use mathlib.Core.List.{List, [], _∷_}
+use mathlib.Core.List.{List}
 use mathlib.Core.Logic.{⊎-elim}
-use Prim.Native.Nat.{ℕ, zero, suc, _+_, _-_, _*_, _/_, _%_, min, _≤_, _<_}
+use Prim.Native.Nat.{ℕ, zero, suc, _+_, _-_, _*_, _/_, _≤_, _<_}
 use native.Mathlib.Nat.{eq-or-lt-of-le, le-of-suc-le-suc}
 use native.Mathlib.Omega.{arith}
 use native.Mathlib.Numerals.{add-one}
 use lib.Dec.{eqb, leb, ltb}
-use lib.ListN.{length, getD, set, take, drop, replicate, getD-replicate, length-take, length-drop}
+use lib.ListN.{length, getD, set, drop, replicate, getD-replicate, length-take, length-drop}
 use lib.Seq.{getD-set-same, getD-set-other, getD-take, getD-drop}
 use borrow.Author.Tests.{eqb-true, eqb-false, ltb-true, ltb-false}
 use borrow.Author.Count.{below-more}
-use Rattle.meaning.specs.Base.{pick, half, part, sameText, allBelow}
+use Rattle.meaning.specs.Base.{pick, half, part, sameText}
 use Rattle.meaning.specs.Book.{nodes, typeOf, promptOf, dependOf, spelledName, nameOk, otherName, newName, symbolOk, recordOk}
+use Rattle.meaning.proofs.Below.{all-every}
+use Rattle.meaning.proofs.Tests.{same-text}
 use Rattle.names.specs.Keys.{triple, keyOf, nameKey, slotOf, tagOf, linkOf, spanned, Fit, Widens, lastWith, linkAt, Linked, Headed, Tagged, Fits}
 
 -- KEYS. A part is no longer than asked for, and its key is that of the book's own bytes
@@ -42,23 +44,12 @@ module _ (m : List ℕ) (at n : ℕ) where
   key-in l h = let b : at + 0 ≡ at = omega arith in rw (whole h, triple-in 0 (omega arith), triple-in (n - 3) (omega arith), b)
 
 -- NAMES that are alike have one key
-same-lists : (a b : List ℕ) → sameText a b ≡ true → a ≡ b
-unfolding sameText
-same-lists [] [] e = refl
-same-lists [] (y ∷ b) e = absurd (true≢false (sym e))
-same-lists (x ∷ a) [] e = absurd (true≢false (sym e))
-same-lists (x ∷ a) (y ∷ b) e = both (eqb x y) refl (same-lists a b) e
-  where
-    both : (q : Bool) → q ≡ eqb x y → (sameText a b ≡ true → a ≡ b) → q && sameText a b ≡ true → x ∷ a ≡ y ∷ b
-    both true h g f = let u = eqb-true x y (sym h) in let v = g f in cc
-    both false h g f = absurd (true≢false (sym f))
-
 unlike : (a b : List ℕ) → (linkOf (keyOf b) ≡ linkOf (keyOf a) → ⊥) → sameText a b ≡ false
 unlike a b n = by (sameText a b) refl
   where
     by : (q : Bool) → sameText a b ≡ q → sameText a b ≡ false
     by false e = e
-    by true e = absurd (n (ap (λ w. linkOf (keyOf w)) (sym (same-lists a b e))))
+    by true e = absurd (n (ap (λ w. linkOf (keyOf w)) (sym (same-text a b e))))
 
 pub other-key : (m : List ℕ) (s e : ℕ) → (nameKey m s ≡ nameKey m e → ⊥) → otherName m s e ≡ true
 unfolding otherName
@@ -66,7 +57,7 @@ other-key m s e n = by (sameText (spelledName m e) (spelledName m s)) refl
   where
     by : (q : Bool) → sameText (spelledName m e) (spelledName m s) ≡ q → not q ≡ true
     by false h = refl
-    by true h = absurd (n (ap keyOf (sym (same-lists _ _ h))))
+    by true h = absurd (n (ap keyOf (sym (same-text _ _ h))))
 
 pub other-text : (m : List ℕ) (s e : ℕ) {w : List ℕ} → w ≡ spelledName m e → sameText w (spelledName m s) ≡ false → otherName m s e ≡ true
 unfolding otherName
@@ -201,12 +192,8 @@ headed-at m base e heads n {w} {h} all eh ew = all (h / 4) (omega (arith, eh)) �
 
 -- every earlier name is another: so the name is new
 pub all-new : (m : List ℕ) (s : ℕ) → ((e : ℕ) → e < s → otherName m s e ≡ true) → newName m s ≡ true
-unfolding newName allBelow
-all-new m s all = by s all
-  where
-    by : (n : ℕ) → ((e : ℕ) → e < n → otherName m s e ≡ true) → allBelow (otherName m s) n ≡ true
-    by zero all = refl
-    by (suc n) all = rw (by n (λ e l. all e (omega arith)), all n (omega arith))
+unfolding newName
+all-new m s all = all-every (otherName m s) s all
 
 without : (a b c d : Bool) → (a && b && c && d) ≡ (a && b && true && c && d)
 without true true c d = refl

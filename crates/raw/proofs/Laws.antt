@@ -1,8 +1,8 @@
 -- What the loops and early returns of this crate show: halves and words past an end, parts, and texts compared byte by byte. Assumes nothing.
 use mathlib.Core.Path.{_≡_, refl, sym, _∙_}
-use mathlib.Core.Bool.{Bool, true, false, _&&_}
+use mathlib.Core.Bool.{true, false, and-false}
 use mathlib.Core.List.{List, [], _∷_}
-use Prim.Native.Nat.{ℕ, zero, suc, _+_, _-_, _*_, _≤_, _<_}
+use Prim.Native.Nat.{ℕ, _+_, _-_, _≤_, _<_}
 use native.Mathlib.Omega.{arith}
 use native.Mathlib.Numerals.{add-one}
 use lib.Dec.{eqb}
@@ -32,17 +32,15 @@ pub part-past : (s : List ℕ) (at n : ℕ) → length s ≤ at → [] ≡ part 
 unfolding part
 part-past s at n h = rw (drop-of-length-le s h) (sym (take-nil n))
 
--- the part is all that is left
+-- all that is left, and the part that is
+pub rest-all : (s : List ℕ) (at : ℕ) → take (length s - at) (drop at s) ≡ drop at s
+rest-all s at = take-all (length s - at) (drop at s) (omega (arith, length-drop at s))
+
 pub part-rest : (s : List ℕ) (at n : ℕ) → length s - at ≤ n → take (length s - at) (drop at s) ≡ part s at n
 unfolding part
-part-rest s at n h =
-    take-all (length s - at) (drop at s) (omega (arith, length-drop at s)) ∙ sym (take-all n (drop at s) (omega (arith, length-drop at s)))
+part-rest s at n h = rest-all s at ∙ sym (take-all n (drop at s) (omega (arith, length-drop at s)))
 
 -- TEXTS. Of other lengths
-and-false : (p : Bool) → p && false ≡ false
-and-false true = refl
-and-false false = refl
-
 pub lengths-differ : (a b : List ℕ) → (length a ≡ length b → ⊥) → sameText a b ≡ false
 unfolding sameText
 lengths-differ [] [] h = absurd (h refl)

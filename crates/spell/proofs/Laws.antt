@@ -1,18 +1,17 @@
 -- A number spelled from its last digit to its first, and what stands in front of it. Assumes nothing.
-use mathlib.Core.Path.{_≡_, refl, sym, _∙_, ap}
-use mathlib.Core.Bool.{Bool, true, false, _&&_}
-use mathlib.Core.List.{List, [], _∷_}
-use Prim.Native.Nat.{ℕ, zero, suc, _+_, _-_, _*_, _/_, _%_, _≤_, _<_}
+use mathlib.Core.Path.{_≡_, _∙_, ap}
+use mathlib.Core.Bool.{Bool}
+use mathlib.Core.List.{List, _∷_}
+use Prim.Native.Nat.{ℕ, suc, _+_, _-_, _/_, _%_, _≤_, _<_}
 use native.Mathlib.Omega.{arith}
 use native.Mathlib.Numerals.{add-one}
 use native.Mathlib.Nat.{le-refl}
-use lib.ListN.{length, getD, take, drop, set, length-set}
-use lib.Seq.{drop-cons, drop-length, getD-set-same, drop-set-lt, take-all}
-use lib.Dec.{eqb}
-use lib.ListN.{length-drop, drop-of-length-le}
-use borrow.Author.Tests.{eq-eqb, ne-eqb, lt-ltb, le-ltb}
+use lib.ListN.{length, take, drop, set, length-set}
+use lib.Seq.{drop-cons, getD-set-same, drop-set-lt}
+use borrow.Author.Tests.{lt-ltb, le-ltb}
 use Rattle.meaning.specs.Base.{sameText}
 use Rattle.meaning.specs.Spell.{digit, digits}
+use Rattle.raw.proofs.Laws.{rest-all}
 
 -- a store just before what is there
 pub stored : (o : List ℕ) (i v : ℕ) → i < length o → drop i (set o i v) ≡ v ∷ drop (i + 1) o
@@ -56,7 +55,7 @@ fronted-two o at u v l m e =
 
 -- the rest of a room of 14 bytes
 pub rest-of : (o : List ℕ) (at : ℕ) → length o ≡ 14 → take (14 - at) (drop at o) ≡ drop at o
-rest-of o at e = let l : length (drop at o) ≤ 14 - at = simp (length-drop, e) (le-refl _) in take-all _ _ l
+rest-of o at e = rw (← e) (rest-all o at)
 
 -- a comparison, where one side is known by another name
 module _ (x y : List ℕ) {z : List ℕ} {r : Bool} (e : r ≡ sameText x y) where

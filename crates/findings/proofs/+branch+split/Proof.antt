@@ -1,6 +1,5 @@
 -- The walk meets its contract: a split's branches are walked in turn, each with one value in the symbol's place, and the last store puts back what was there.
-use Rattle.findings.proofs.Walks.{stopped, on-going, both as both-of, no-split, in-finding, all-branches, turns-none, turn-walked, turn-skipped, still-same, same-size, put-back}
-use Rattle.findings.proofs.Walks.{stopped, on-going, both as both-of, no-split, in-finding, all-branches, turns-none, turn-walked, turn-skipped, still-same, put-back}
+use Rattle.findings.proofs.Walks.{stopped, on-going, no-split, in-finding, all-branches, turns-none, turn-walked, turn-skipped, still-same, same-size, put-back}
 use Rattle.findings.specs.Walks.{decoded, branches}
 use Rattle.meaning.specs.declared.Walked.the-variants.{Next}
 use lib.ListN.{length, set}
@@ -10,6 +9,7 @@ use lib.Dec.{ltb}
 use denote.Ref.{now}
 use native.Mathlib.Omega.{arith}
 use mathlib.Core.Path.{_≡_, refl, sym, _∙_, ap}
+use mathlib.Mathlib.Data.Bool.Basic.{and-elim-left, and-elim-right}
 use borrow.Author.Needs.{needs}
 use Prim.Native.Nat.{ℕ, _+_, _-_, _<_, _≤_}
 use borrow.Fn.Kinds.{In}
@@ -61,7 +61,7 @@ branch-splits-requires : (t : ℕ) → branch-lts.Need-splits-requires (branch-c
 branch-splits-requires t c κs = search needs
 
 branch-split-requires : (t : ℕ) → branch-lts.Need-split-requires (branch-claims t) (branch-at t) branch.Post
-branch-split-requires t c κs = (omega arith, (ltb-true 0 (c .before .before .before .before .before .before .before .before .before .args .left) (both-of (ltb 0 (c .before .before .before .before .before .before .before .before .before .args .left)) (c .before .before .before .splits .result) (c .before .before .if2 .taken) .0), sym (c .before .before .before .splits .ensures) ∙ both-of (ltb 0 (c .before .before .before .before .before .before .before .before .before .args .left)) (c .before .before .before .splits .result) (c .before .before .if2 .taken) .1, (c .before .before .before .before .before .before .before .before .before .pre .1 .1), c .before .before .before .before .before .before .before .before .before .pre .1 .2))
+branch-split-requires t c κs = (omega arith, (ltb-true 0 (c .before .before .before .before .before .before .before .before .before .args .left) (and-elim-left (ltb 0 (c .before .before .before .before .before .before .before .before .before .args .left)) (c .before .before .before .splits .result) (c .before .before .if2 .taken)), sym (c .before .before .before .splits .ensures) ∙ and-elim-right (ltb 0 (c .before .before .before .before .before .before .before .before .before .args .left)) (c .before .before .before .splits .result) (c .before .before .if2 .taken), (c .before .before .before .before .before .before .before .before .before .pre .1 .1), c .before .before .before .before .before .before .before .before .before .pre .1 .2))
 
 branch-same-length : (t : ℕ) → branch-lts.Need-same-length (branch-claims t) (branch-at t) branch.Post
 branch-same-length t c = search needs

@@ -3,9 +3,9 @@ use Prim.Native.Nat.{_+_}
 use lib.ListN.{length}
 use lib.Dec.{eqb, leb}
 -- `findings::head_at` meets its contract: a leaf, a split, or neither.
-use Rattle.findings.proofs.Heads.{head-leaf, head-split, head-bad, leaf-stands-in, split-stands-in, both-true}
+use Rattle.findings.proofs.Heads.{head-leaf, head-split, head-bad, leaf-stands-in, split-stands-in}
 use borrow.Author.Tests.{leb-true}
-use mathlib.Core.Path.{_≡_, refl, sym, _∙_, ap}
+use mathlib.Mathlib.Data.Bool.Basic.{and-elim-right}
 use borrow.Author.Needs.{needs}
 use Rattle.findings.proofs.head_at.Statement.{statement}
 use Rattle.findings.proofs.head_at.Tie as tie
@@ -42,7 +42,7 @@ leaf-head-requires : tie.Need-leaf-head-requires
 leaf-head-requires c κs = search needs
 
 returns : tie.Need-returns
-returns c = (head-leaf (c .before .before .before .before .before .before .before .before .args .m .now) (c .before .before .before .before .before .before .before .before .args .q) (c .before .before .before .before .before .before .before .before .args .f .now) (c .before .before .before .before .before .before .before .before .args .ys .now) (c .before .before .before .before .before .before .before .before .args .at) (c .before .before .before .before .byte .ensures) (c .before .before .before .if1 .taken) (c .before .before .byte2 .ensures) (c .before .half .ensures .0) (c .leaf-head .ensures), leaf-stands-in (c .before .before .before .before .before .before .before .before .args .m .now) (c .before .before .before .before .before .before .before .before .args .q) (c .before .before .before .before .before .before .before .before .args .f .now) _ _ _ (c .leaf-head .result) (c .before .half .ensures .1) (leb-true _ _ (both-true (eqb (c .before .before .before .before .byte .result) 1) (leb (c .before .before .before .before .before .before .before .before .args .at + 4) (length (c .before .before .before .before .before .before .before .before .args .f .now))) (c .before .before .before .if1 .taken))) (c .leaf-head .ensures))
+returns c = (head-leaf (c .before .before .before .before .before .before .before .before .args .m .now) (c .before .before .before .before .before .before .before .before .args .q) (c .before .before .before .before .before .before .before .before .args .f .now) (c .before .before .before .before .before .before .before .before .args .ys .now) (c .before .before .before .before .before .before .before .before .args .at) (c .before .before .before .before .byte .ensures) (c .before .before .before .if1 .taken) (c .before .before .byte2 .ensures) (c .before .half .ensures .0) (c .leaf-head .ensures), leaf-stands-in (c .before .before .before .before .before .before .before .before .args .m .now) (c .before .before .before .before .before .before .before .before .args .q) (c .before .before .before .before .before .before .before .before .args .f .now) _ _ _ (c .leaf-head .result) (c .before .half .ensures .1) (leb-true _ _ (and-elim-right (eqb (c .before .before .before .before .byte .result) 1) (leb (c .before .before .before .before .before .before .before .before .args .at + 4) (length (c .before .before .before .before .before .before .before .before .args .f .now))) (c .before .before .before .if1 .taken))) (c .leaf-head .ensures))
 
 add-if2 : tie.Need-add-if2
 add-if2 c = search needs

@@ -1,5 +1,6 @@
 -- `line::rest` meets its contract: nothing past the end, else all that is left.
-use Rattle.line.proofs.Laws.{rest-past, rest-on}
+use Rattle.line.proofs.Laws.{rest-past}
+use Rattle.raw.proofs.Laws.{rest-all}
 use borrow.Author.Needs.{needs}
 use Rattle.line.proofs.rest.Statement.{statement}
 use Rattle.line.proofs.rest.Tie as tie
@@ -28,7 +29,7 @@ part-result-end-2 : tie.Need-part-result-end-2
 part-result-end-2 c = search needs
 
 returns-2 : tie.Need-returns-2
-returns-2 c = rest-on (c .before .before .args .s .now) (c .before .before .args .at)
+returns-2 c = rest-all (c .before .before .args .s .now) (c .before .before .args .at)
 
 pub rest-spec : {M : Type 1} → statement M
 rest-spec =
