@@ -3,7 +3,7 @@
 // Total over any bytes. `fault` has answers 1 to 4, the first fault in document 01's order with both its places; `name` hands
 // back the part of the book that spells a symbol's name.
 ghost use mathlib.Core.Path.{_≡_};
-ghost use Prim.Native.Nat.{ℕ, _+_, _<_, _≤_, _^_};
+ghost use Prim.Native.Nat.{_+_, _<_};
 ghost use Rattle.meaning.specs.Base.{firstBelow};
 ghost use Rattle.meaning.specs.Book.{due as dueOf, lengthFault, chainAt, endFault, chainFault, recordAt, sectionFault};
 ghost use Rattle.meaning.specs.Book.{sectionAfter, unusedFault, memberAt, choiceMembersFault, membersFault, recordsFault};

@@ -2,12 +2,11 @@
 //
 // Total over any bytes: `vs` has the nodes' values. A choice's number is below 2^16.
 ghost use mathlib.Core.Path.{_≡_};
-ghost use mathlib.Core.Bool.{_&&_, not};
-ghost use Prim.Native.Nat.{ℕ, _+_, _<_, _^_};
-ghost use lib.Dec.{eqb, leb, ltb};
-ghost use Rattle.meaning.specs.Base.{pick, fold, firstWhere};
+ghost use Prim.Native.Nat.{_+_, _<_};
+ghost use lib.Dec.{eqb};
+ghost use Rattle.meaning.specs.Base.{pick, firstWhere};
 ghost use Rattle.meaning.specs.Book.{memberOf, memberCount};
-ghost use Rattle.meaning.specs.Rules.{memberValue, atLeast, someOf, ysOf, msOf, firstYes, otherOf, firstModule};
+ghost use Rattle.meaning.specs.Rules.{memberValue, atLeast, msOf, otherOf};
 ghost use Rattle.meaning.specs.Rules.{test15, test16, test17, choiceFault, test18};
 use meaning::Outcome;
 use tri::Tri;

@@ -1,11 +1,11 @@
 -- Every pick from a set, a turn at a time; a pick from {n} alone; and what each rule's closing asks. Assumes nothing.
-use mathlib.Core.Path.{_≡_, refl, sym, _∙_, ap}
+use mathlib.Core.Path.{_≡_, refl, sym, _∙_}
 use mathlib.Core.Bool.{Bool, true, false, _&&_, not}
-use mathlib.Core.List.{List, _++_, append-nil}
-use Prim.Native.Nat.{ℕ, _+_, _≤_, _<_}
+use mathlib.Core.List.{List, append-nil}
+use Prim.Native.Nat.{ℕ, _+_, _<_}
 use native.Mathlib.Omega.{arith}
 use lib.Dec.{eqb, leb, ltb}
-use lib.ListN.{length, drop, replicate, drop-of-length-le}
+use lib.ListN.{length, replicate, drop-of-length-le}
 use Rattle.meaning.specs.Base.{pick, allBelow}
 use Rattle.meaning.specs.Book.{promptOf, dependOf, selectorOf, targetOf, conditionOf, mandatoryOf, choicePrompt, memberCount, modulesOf}
 use Rattle.meaning.specs.Rules.{atLeast}

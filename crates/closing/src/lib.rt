@@ -2,10 +2,10 @@
 //
 // Total over any book and any sets; `closed_on` is what the walk calls, and whoever else has the sets of a path.
 ghost use mathlib.Core.Path.{_≡_};
-ghost use mathlib.Core.Bool.{Bool, _&&_};
-ghost use Prim.Native.Nat.{ℕ, _+_, _<_, _^_};
+ghost use mathlib.Core.Bool.{_&&_};
+ghost use Prim.Native.Nat.{_<_};
 ghost use lib.Dec.{ltb};
-ghost use lib.ListN.{length, replicate};
+ghost use lib.ListN.{replicate};
 ghost use Rattle.meaning.specs.Book.{nodes as nodesOf, memberCount};
 ghost use Rattle.meaning.specs.Rules.{atLeast};
 ghost use Rattle.meaning.specs.Sets.{every, nodeSets};

@@ -3,7 +3,7 @@
 // Total over any bytes. Answers 5 and 6 come from `fault`; `entry` is an entry as that reads it, found or refused; `value` is
 // what stands at a symbol, n where nothing does.
 ghost use mathlib.Core.Path.{_≡_};
-ghost use Prim.Native.Nat.{ℕ, _<_, _≤_, _^_};
+ghost use Prim.Native.Nat.{_<_, _^_};
 ghost use Rattle.meaning.specs.Table.{entries as entriesOf, kindOf, lengthOf, startOf, bodyDue, lengthFits, byteFits, entryOk};
 ghost use Rattle.meaning.specs.Table.{contentsFault, entryAt, bodiesFault, tableFault, signedOf, readOf, entryOf, valueOf};
 use meaning::Entry;

@@ -3,7 +3,7 @@
 // Total over any bytes; offsets and widths stand here and nowhere else. A record's number is below 2^32, so that no sum can
 // overflow: every number that a book holds is below 2^16.
 ghost use mathlib.Core.Path.{_≡_};
-ghost use Prim.Native.Nat.{ℕ, _<_, _^_};
+ghost use Prim.Native.Nat.{_<_, _^_};
 ghost use Rattle.meaning.specs.Book.{start as startOf, count as countOf, width as widthOf, byteIn, halfIn};
 ghost use Rattle.meaning.specs.Book.{total as totalOf, modulesOf, textStart, nameStart, spelledName, threeType, isLeaf};
 ghost use Rattle.meaning.specs.Book.{symbols as symbolsOf, nodes as nodesOf, defaults as defaultsOf, selects as selectsOf, ranges as rangesOf, choices as choicesOf, members as membersOf, texts as textsOf};

@@ -3,14 +3,13 @@
 // Any bytes in, one outcome out, and both rooms afterwards as document 01 owes them.
 ghost use mathlib.Core.Path.{_≡_};
 ghost use mathlib.Core.Bool.{true};
-ghost use Prim.Native.Nat.{ℕ, _+_, _<_, _≤_};
+ghost use Prim.Native.Nat.{_+_, _<_, _≤_};
 ghost use lib.ListN.{length, replicate};
 ghost use Rattle.meaning.specs.Book.{symbols as symbolsOf, nodes as nodesOf};
-ghost use Rattle.meaning.specs.Values.{nodeValues};
 ghost use Rattle.meaning.specs.Rules.{unmetIn};
 ghost use Rattle.meaning.specs.Sets.{fullSets};
-ghost use Rattle.meaning.specs.Clearance.{leafStands, leafHead, splitHead, headOf, walkOf};
-ghost use Rattle.meaning.specs.Findings.{selectOf, headFault, witnessTable, witnessFault, walkFault, clearanceFault, bodyFault};
+ghost use Rattle.meaning.specs.Clearance.{leafStands, leafHead, splitHead, headOf};
+ghost use Rattle.meaning.specs.Findings.{headFault, witnessFault, walkFault, clearanceFault, bodyFault};
 ghost use Rattle.meaning.specs.declared.Walked.the-variants.{Next};
 ghost use Rattle.findings.specs.Walks.{decoded, walked, splitsAt, StandsIn};
 ghost use Rattle.findings.specs.Found.{Found};

@@ -2,7 +2,7 @@
 //
 // The caller lends 65,535 bytes of node work, which is a byte for every node that a book can count, and room for the line.
 ghost use mathlib.Core.Path.{_≡_};
-ghost use Prim.Native.Nat.{ℕ, _+_, _<_, _≤_, _^_};
+ghost use Prim.Native.Nat.{_+_, _<_, _≤_};
 ghost use mathlib.Core.List.{_∷_, [], _++_};
 ghost use lib.ListN.{length, drop};
 ghost use Rattle.meaning.specs.Base.{answerOf};

@@ -1,7 +1,6 @@
 -- P1 to P10 hold of the exported checks' own contracts: whatever meets the contract on a worked case is that case's answer, since the definitions
 -- compute to it. Assumes nothing.
-use Prim.Native.Nat.{ℕ}
-use mathlib.Core.Path.{_≡_, refl, sym, _∙_, ap}
+use mathlib.Core.Path.{_≡_, _∙_, ap}
 use mathlib.Core.List.{List, [], _∷_, map}
 use lib.ListN.{length}
 use contract.Lifetimes.{Lfts}
@@ -9,7 +8,7 @@ use borrow.Fn.Kinds.{Dens, resT, endedOf}
 use denote.Triple.Clauses.{AtExit}
 use denote.Ref.{now}
 use Rattle.meaning.specs.declared.Answer.{Answer}
-use Rattle.meaning.specs.Base.{answerOf, packed}
+use Rattle.meaning.specs.Base.{packed}
 use Rattle.meaning.specs.Cases.{Case, onTable, onFinding, answered, owed, cases, worked}
 use Rattle.plaitcrumb.proofs.plaitcrumb_check_table.Kinds as table-kinds
 use Rattle.plaitcrumb.proofs.plaitcrumb_check_table.Reads as table-reads

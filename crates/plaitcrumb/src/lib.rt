@@ -2,7 +2,6 @@
 //
 // No heap, no globals; any bytes in, a plain integer out, and every lent byte stated.
 ghost use mathlib.Core.Path.{_≡_};
-ghost use Prim.Native.Nat.{ℕ};
 ghost use lib.ListN.{length};
 ghost use Rattle.meaning.specs.Base.{answerOf, packed};
 ghost use Rattle.meaning.specs.Book.{namePlace};

@@ -2,7 +2,7 @@
 //
 // Past a slice's end a byte is 0, a part has as much as there is, and a store changes nothing.
 ghost use mathlib.Core.Path.{_≡_};
-ghost use Prim.Native.Nat.{ℕ, _+_, _*_, _<_};
+ghost use Prim.Native.Nat.{_+_, _*_, _<_};
 ghost use lib.ListN.{getD, set};
 ghost use Rattle.meaning.specs.Base.{half as halfOf, word as wordOf, part as partOf, sameText, when};
 ghost use Rattle.meaning.specs.declared.Outcome.the-variants.{Fault};

@@ -2,7 +2,7 @@
 //
 // Total over any bytes. Each test is document 01's, by its definition; a record's number is below 2^32.
 ghost use mathlib.Core.Path.{_≡_};
-ghost use Prim.Native.Nat.{ℕ, _+_, _<_, _^_};
+ghost use Prim.Native.Nat.{_+_, _<_, _^_};
 ghost use mathlib.Core.Bool.{_&&_};
 ghost use lib.Dec.{leb, ltb};
 ghost use Rattle.meaning.specs.Book.{nodes as nodesOf, typeOf, promptOf, dependOf};

@@ -2,9 +2,9 @@
 //
 // Total over any bytes. A number is spelled into a buffer of 14 bytes, from its end.
 ghost use mathlib.Core.Path.{_≡_};
-ghost use Prim.Native.Nat.{ℕ, _+_, _*_, _<_, _≤_, _^_};
-ghost use mathlib.Core.List.{_∷_, []};
-ghost use lib.ListN.{getD, length, drop, take};
+ghost use Prim.Native.Nat.{_+_, _<_, _≤_};
+ghost use mathlib.Core.List.{[]};
+ghost use lib.ListN.{length, drop};
 ghost use lib.IntN.{natAbs};
 ghost use Rattle.meaning.specs.Base.{sameText};
 ghost use Rattle.meaning.specs.Spell.{digit, digits, letter, spelledInt, spelledHex};

@@ -1,13 +1,12 @@
 -- `book::chain_fault` meets its contract: it goes on while every section is in place, stops at the first that is not, and looks at the end last.
-use Rattle.meaning.proofs.First.{first-fault, first-clean}
+use Rattle.meaning.proofs.First.{first-fault, first-clean, clean-none, clean-more, place-fault}
 -- `book::chain_fault` meets its contract: it goes on while every section is in place, stops at the first that is not, and looks at the end last.
 use Rattle.meaning.specs.Book.{chainFault, chainAt, endFault}
 use Rattle.meaning.specs.Base.{firstBelow}
-use Rattle.meaning.specs.declared.Outcome.the-variants.{Clean, Fault}
+use Rattle.meaning.specs.declared.Outcome.the-variants.{Clean}
 use native.Mathlib.Omega.{arith}
-use mathlib.Core.Path.{_≡_, refl, sym, _∙_, ap}
+use mathlib.Core.Path.{_≡_, refl}
 use Prim.Native.Nat.{_≤_, _-_}
-use Rattle.meaning.proofs.First.{clean-none, clean-more, place-fault}
 use borrow.Author.Needs.{needs}
 use Rattle.book.proofs.chain_fault.Statement.{statement}
 use Rattle.book.proofs.chain_fault.Tie as tie

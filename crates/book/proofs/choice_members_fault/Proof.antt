@@ -1,9 +1,9 @@
 -- `book::choice_members_fault` meets its contract: it goes on while every member is well formed, and stops at the first that is not.
 use Rattle.meaning.specs.Book.{choiceMembersFault, memberAt}
 use Rattle.meaning.specs.Base.{firstBelow}
-use Rattle.meaning.specs.declared.Outcome.the-variants.{Clean, Fault}
+use Rattle.meaning.specs.declared.Outcome.the-variants.{Clean}
 use native.Mathlib.Omega.{arith}
-use mathlib.Core.Path.{_≡_, refl, sym, _∙_, ap}
+use mathlib.Core.Path.{_≡_, sym}
 use Prim.Native.Nat.{_≤_, _-_}
 use Rattle.meaning.proofs.First.{clean-none, clean-more, place-fault}
 use borrow.Author.Needs.{needs}

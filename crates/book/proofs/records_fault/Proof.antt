@@ -1,5 +1,5 @@
 -- `book::records_fault` meets its contract: one part after another, each looked at where those before it are clean.
-use mathlib.Core.Path.{_≡_, refl, sym, _∙_, ap}
+use mathlib.Core.Path.{sym, _∙_}
 use Rattle.book.proofs.Laws.{members-fit}
 use Rattle.meaning.specs.Book.{recordsFault}
 use Rattle.meaning.proofs.First.{first-fault, first-clean}

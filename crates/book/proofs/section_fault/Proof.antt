@@ -5,7 +5,7 @@ use Rattle.meaning.specs.Base.{firstBelow}
 use Rattle.meaning.specs.declared.Outcome.the-variants.{Clean}
 use Prim.Native.Nat.{_≤_, _-_}
 use native.Mathlib.Omega.{arith}
-use mathlib.Core.Path.{_≡_, refl, sym, _∙_, ap}
+use mathlib.Core.Path.{_≡_, sym}
 use borrow.Author.Needs.{needs}
 use Rattle.book.proofs.section_fault.Statement.{statement}
 use Rattle.book.proofs.section_fault.Tie as tie

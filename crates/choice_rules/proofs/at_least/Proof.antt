@@ -1,8 +1,8 @@
 -- `choice_rules::at_least` meets its contract: it counts the members so far.
-use lib.Dec.{eqb, leb, ltb}
-use Prim.Native.Nat.{_≤_, _-_, _+_, _<_}
+use lib.Dec.{leb}
+use Prim.Native.Nat.{_≤_, _-_, _+_}
 use native.Mathlib.Omega.{arith}
-use mathlib.Core.Path.{_≡_, refl, sym, _∙_, ap, ap₂}
+use mathlib.Core.Path.{_≡_}
 use Rattle.meaning.specs.Base.{countBelow}
 use Rattle.meaning.proofs.Below.{count-none, count-more, count-bound}
 use Rattle.meaning.specs.Rules.{memberValue, atLeast}

@@ -1,11 +1,10 @@
 -- `choice_rules::first_that_is` meets its contract: it goes on while no member so far passes, and stops at the first that does.
 use Rattle.meaning.specs.Book.{memberCount}
 -- `choice_rules::first_that_is` meets its contract: it goes on while no member so far passes, and stops at the first that does.
-use lib.Dec.{eqb, leb, ltb}
-use Prim.Native.Nat.{_≤_, _-_, _+_, _<_}
+use lib.Dec.{eqb}
+use Prim.Native.Nat.{_≤_, _-_}
 use native.Mathlib.Omega.{arith}
-use mathlib.Core.Path.{_≡_, refl, sym, _∙_, ap, ap₂}
-use mathlib.Core.Bool.{_&&_, not}
+use mathlib.Core.Path.{_≡_, sym, _∙_, ap}
 use Rattle.meaning.specs.Base.{firstWhere}
 use Rattle.meaning.proofs.Below.{first-none, first-more, first-hit}
 use Rattle.meaning.specs.Rules.{memberValue}

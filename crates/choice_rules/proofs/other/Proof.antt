@@ -1,8 +1,8 @@
 -- `choice_rules::other` meets its contract: it goes on while no member so far passes, and stops at the first that does.
-use lib.Dec.{eqb, leb, ltb}
-use Prim.Native.Nat.{_≤_, _-_, _+_, _<_}
+use lib.Dec.{eqb, ltb}
+use Prim.Native.Nat.{_≤_, _-_}
 use native.Mathlib.Omega.{arith}
-use mathlib.Core.Path.{_≡_, refl, sym, _∙_, ap, ap₂}
+use mathlib.Core.Path.{_≡_, sym, _∙_, ap}
 use mathlib.Core.Bool.{_&&_, not}
 use Rattle.meaning.specs.Base.{firstWhere}
 use Rattle.meaning.proofs.Below.{first-none, first-more, first-hit}

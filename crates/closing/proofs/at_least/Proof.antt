@@ -6,7 +6,7 @@ use Rattle.meaning.specs.Base.{countBelow}
 use Prim.Native.Nat.{_≤_, _-_, _+_}
 use lib.Dec.{leb}
 use native.Mathlib.Omega.{arith}
-use mathlib.Core.Path.{_≡_, refl, sym, _∙_, ap}
+use mathlib.Core.Path.{_≡_}
 use borrow.Author.Needs.{needs}
 use Rattle.closing.proofs.at_least.Statement.{statement}
 use Rattle.closing.proofs.at_least.Tie as tie

@@ -1,5 +1,5 @@
 -- `closing::bound` meets its contract: the most or the least, as asked.
-use mathlib.Core.Path.{_≡_, refl, sym, _∙_, ap}
+use mathlib.Core.Path.{_∙_}
 use borrow.Author.Needs.{needs}
 use Rattle.closing.proofs.bound.Statement.{statement}
 use Rattle.closing.proofs.bound.Tie as tie

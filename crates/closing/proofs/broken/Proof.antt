@@ -1,6 +1,5 @@
 -- `closing::broken` meets its contract: rule by rule.
-use borrow.Author.Tests.{eqb-true, ne-eqb, le-leb, lt-leb, eq-eqb}
-use mathlib.Core.Path.{_≡_, refl, sym, _∙_, ap}
+use borrow.Author.Tests.{ne-eqb}
 use borrow.Author.Needs.{needs}
 use Rattle.closing.proofs.broken.Statement.{statement}
 use Rattle.closing.proofs.broken.Tie as tie

@@ -1,7 +1,6 @@
 -- `closing::closed` meets its contract: rule by rule.
 use Rattle.meaning.specs.Clearance.{closed, closed11, closed12, closed13, closed15, closed17, closed18}
-use borrow.Author.Tests.{eqb-true, ne-eqb, le-leb, lt-leb, eq-eqb}
-use mathlib.Core.Path.{_≡_, refl, sym, _∙_, ap}
+use borrow.Author.Tests.{ne-eqb}
 use borrow.Author.Needs.{needs}
 use Rattle.closing.proofs.closed.Statement.{statement}
 use Rattle.closing.proofs.closed.Tie as tie

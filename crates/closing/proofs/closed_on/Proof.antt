@@ -2,7 +2,7 @@
 use Rattle.closing.proofs.Laws.{cleared-all}
 use Rattle.sets.proofs.Nodes.{known-blank}
 use Rattle.meaning.specs.Clearance.{closedOn}
-use mathlib.Core.Path.{_≡_, refl, sym, _∙_, ap}
+use mathlib.Core.Path.{refl, sym, _∙_}
 use borrow.Author.Needs.{needs}
 use Rattle.closing.proofs.closed_on.Statement.{statement}
 use Rattle.closing.proofs.closed_on.Tie as tie

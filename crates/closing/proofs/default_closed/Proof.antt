@@ -1,7 +1,7 @@
 -- `closing::default_closed` meets its contract: every pick of value, prompt, Default and Lower.
 use Rattle.meaning.specs.Sets.{nodeSets}
 use Rattle.closing.proofs.Laws.{closes13}
-use mathlib.Core.Path.{_≡_, refl, sym, _∙_, ap}
+use mathlib.Core.Path.{_∙_}
 use borrow.Author.Needs.{needs}
 use Rattle.closing.proofs.default_closed.Statement.{statement}
 use Rattle.closing.proofs.default_closed.Tie as tie

@@ -2,10 +2,10 @@ use borrow.Author.Tests.{not-true, not-false}
 -- `closing::every_pick` meets its contract: each loop has passed every pick so far, and leaves at the first that is not broken.
 use Rattle.closing.proofs.Laws.{till, till-none, till-more, till-skip, till-all, till-stop, on1, on2, on3, on4, picked-all, picked-stop}
 use mathlib.Core.Logic.{⊎-elim}
-use mathlib.Core.Bool.{true, false}
+use mathlib.Core.Bool.{true}
 use Prim.Native.Nat.{_≤_, _-_}
 use native.Mathlib.Omega.{arith}
-use mathlib.Core.Path.{_≡_, refl, sym, _∙_, ap}
+use mathlib.Core.Path.{_≡_, refl, sym, _∙_}
 use borrow.Author.Needs.{needs}
 use Rattle.closing.proofs.every_pick.Statement.{statement}
 use Rattle.closing.proofs.every_pick.Tie as tie

@@ -2,11 +2,11 @@ use borrow.Author.Tests.{not-true, not-false}
 -- `closing::every_prompt` meets its contract: each turn has passed every pick so far.
 use Rattle.closing.proofs.Laws.{till, till-none, till-more, till-skip, till-all, till-stop}
 use mathlib.Core.Logic.{⊎-elim}
-use mathlib.Core.Bool.{true, false, _&&_}
+use mathlib.Core.Bool.{true, _&&_}
 use lib.Dec.{ltb}
 use Prim.Native.Nat.{_≤_, _-_}
 use native.Mathlib.Omega.{arith}
-use mathlib.Core.Path.{_≡_, refl, sym, _∙_, ap}
+use mathlib.Core.Path.{_≡_, refl, sym, _∙_}
 use borrow.Author.Needs.{needs}
 use Rattle.closing.proofs.every_prompt.Statement.{statement}
 use Rattle.closing.proofs.every_prompt.Tie as tie

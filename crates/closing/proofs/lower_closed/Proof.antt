@@ -1,7 +1,6 @@
 -- `closing::lower_closed` meets its contract: every pick of value and Lower.
 use Rattle.meaning.specs.Sets.{nodeSets}
 use Rattle.closing.proofs.Laws.{closes11}
-use mathlib.Core.Path.{_≡_, refl, sym, _∙_, ap}
 use borrow.Author.Needs.{needs}
 use Rattle.closing.proofs.lower_closed.Statement.{statement}
 use Rattle.closing.proofs.lower_closed.Tie as tie

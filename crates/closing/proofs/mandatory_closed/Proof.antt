@@ -1,7 +1,7 @@
 -- `closing::mandatory_closed` meets its contract: the most that each member may be breaks it, or no pick does.
 use Rattle.meaning.specs.Sets.{nodeSets}
 use Rattle.closing.proofs.Laws.{closes17}
-use mathlib.Core.Path.{_≡_, refl, sym, _∙_, ap}
+use mathlib.Core.Path.{_∙_}
 use borrow.Author.Needs.{needs}
 use Rattle.closing.proofs.mandatory_closed.Statement.{statement}
 use Rattle.closing.proofs.mandatory_closed.Tie as tie

@@ -1,7 +1,7 @@
 -- `closing::met` meets its contract: every pick of selector, condition and dependency.
 use Rattle.meaning.specs.Sets.{nodeSets}
 use Rattle.closing.proofs.Laws.{closes20}
-use mathlib.Core.Path.{_≡_, refl, sym, _∙_, ap}
+use mathlib.Core.Path.{_∙_}
 use borrow.Author.Needs.{needs}
 use Rattle.closing.proofs.met.Statement.{statement}
 use Rattle.closing.proofs.met.Tie as tie

@@ -1,7 +1,6 @@
 -- `closing::modules_closed` meets its contract: every pick of the modules symbol and the value.
 use Rattle.meaning.specs.Sets.{nodeSets}
 use Rattle.closing.proofs.Laws.{closes18}
-use mathlib.Core.Path.{_≡_, refl, sym, _∙_, ap}
 use borrow.Author.Needs.{needs}
 use Rattle.closing.proofs.modules_closed.Statement.{statement}
 use Rattle.closing.proofs.modules_closed.Tie as tie

@@ -1,7 +1,7 @@
 -- `closing::one_closed` meets its contract: the least that each member may be breaks it, or no pick does.
 use Rattle.meaning.specs.Sets.{nodeSets}
 use Rattle.closing.proofs.Laws.{closes15}
-use mathlib.Core.Path.{_≡_, refl, sym, _∙_, ap}
+use mathlib.Core.Path.{_∙_}
 use borrow.Author.Needs.{needs}
 use Rattle.closing.proofs.one_closed.Statement.{statement}
 use Rattle.closing.proofs.one_closed.Tie as tie

@@ -1,7 +1,7 @@
 -- `closing::upper_closed` meets its contract: every pick of value, prompt and Lower.
 use Rattle.meaning.specs.Sets.{nodeSets}
 use Rattle.closing.proofs.Laws.{closes12}
-use mathlib.Core.Path.{_≡_, refl, sym, _∙_, ap}
+use mathlib.Core.Path.{_∙_}
 use borrow.Author.Needs.{needs}
 use Rattle.closing.proofs.upper_closed.Statement.{statement}
 use Rattle.closing.proofs.upper_closed.Tie as tie

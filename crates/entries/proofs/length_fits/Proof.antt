@@ -1,8 +1,7 @@
 -- `entries::length_fits` meets its contract: kind by kind.
-use borrow.Author.Tests.{lt-ltb, le-ltb, ne-eqb, le-leb, lt-leb}
+use borrow.Author.Tests.{ne-eqb, le-leb, lt-leb}
 use native.Mathlib.Omega.{arith}
 use Rattle.meaning.specs.Table.{lengthFits}
-use borrow.Author.Needs.{needs}
 use Rattle.entries.proofs.length_fits.Statement.{statement}
 use Rattle.entries.proofs.length_fits.Tie as tie
 use Rattle.entries.proofs.length_fits.Reads as reads

@@ -1,7 +1,7 @@
 -- `entries::signed` meets its contract: the upper half of the words stands for the negative numbers.
-use borrow.Author.Tests.{lt-ltb, le-ltb, ne-eqb, le-leb, lt-leb}
+use borrow.Author.Tests.{lt-ltb, le-ltb}
 use native.Mathlib.Omega.{arith}
-use mathlib.Core.Path.{_≡_, refl, sym, _∙_, ap}
+use mathlib.Core.Path.{_≡_, ap}
 use Prim.Native.Nat.{_-_}
 use lib.IntN.{negsuc}
 use borrow.Author.Needs.{needs}

@@ -1,6 +1,5 @@
 -- `entries::three` meets its contract: a three-valued entry's own value, n for every other.
 use Rattle.entries.proofs.Laws.{three-is, three-other, value-past, value-three}
-use mathlib.Core.Path.{_≡_, refl, sym, _∙_, ap}
 use borrow.Author.Needs.{needs}
 use Rattle.entries.proofs.three.Statement.{statement}
 use Rattle.entries.proofs.three.Tie as tie

@@ -1,9 +1,8 @@
 -- `fields::default_symbol_from` meets its contract: the start is the defaults' own.
 use Prim.Native.Nat.{_+_, _*_}
 use native.Mathlib.Omega.{arith}
-use Rattle.meaning.specs.Book.{start as startOf}
-use Rattle.meaning.specs.Book.{halfIn}
-use mathlib.Core.Path.{_≡_, refl, sym, _∙_, ap}
+use Rattle.meaning.specs.Book.{start as startOf, halfIn}
+use mathlib.Core.Path.{_≡_}
 use borrow.Author.Needs.{needs}
 use Rattle.fields.proofs.default_symbol_from.Statement.{statement}
 use Rattle.fields.proofs.default_symbol_from.Tie as tie

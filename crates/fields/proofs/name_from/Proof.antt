@@ -1,5 +1,5 @@
 -- `fields::name_from` meets its contract: it is the part that the name's offset and length give.
-use mathlib.Core.Path.{_≡_, refl, sym, _∙_, ap}
+use mathlib.Core.Path.{_∙_}
 use borrow.Author.Needs.{needs}
 use Rattle.fields.proofs.name_from.Statement.{statement}
 use Rattle.fields.proofs.name_from.Tie as tie

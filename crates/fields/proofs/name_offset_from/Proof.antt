@@ -1,6 +1,5 @@
 -- `fields::name_offset_from` meets its contract: the start is the symbols' own.
 use Rattle.meaning.specs.Book.{halfIn}
-use mathlib.Core.Path.{_≡_, refl, sym, _∙_, ap}
 use borrow.Author.Needs.{needs}
 use Rattle.fields.proofs.name_offset_from.Statement.{statement}
 use Rattle.fields.proofs.name_offset_from.Tie as tie

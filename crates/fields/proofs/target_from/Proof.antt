@@ -1,6 +1,5 @@
 -- `fields::target_from` meets its contract: the start is the selects' own.
 use Rattle.meaning.specs.Book.{halfIn}
-use mathlib.Core.Path.{_≡_, refl, sym, _∙_, ap}
 use borrow.Author.Needs.{needs}
 use Rattle.fields.proofs.target_from.Statement.{statement}
 use Rattle.fields.proofs.target_from.Tie as tie

@@ -1,7 +1,7 @@
 -- `findings::body` meets its contract: both rooms are cleared to their ends, whatever was answered.
 use lib.ListN.{length, length-replicate}
 use Rattle.closing.proofs.Laws.{cleared-all}
-use mathlib.Core.Path.{_≡_, refl, sym, _∙_, ap}
+use mathlib.Core.Path.{refl, sym, _∙_, ap}
 use borrow.Author.Needs.{needs}
 use Rattle.findings.proofs.body.Statement.{statement}
 use Rattle.findings.proofs.body.Tie as tie

@@ -1,6 +1,5 @@
 -- `findings::body_fault` meets its contract: by the finding's kind.
 use Rattle.findings.proofs.Bodies.{judged-witness, judged-clearance}
-use mathlib.Core.Path.{_≡_, refl, sym, _∙_, ap}
 use borrow.Author.Needs.{needs}
 use Rattle.findings.proofs.body_fault.Statement.{statement}
 use Rattle.findings.proofs.body_fault.Tie as tie

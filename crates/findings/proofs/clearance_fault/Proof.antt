@@ -3,7 +3,7 @@ use Rattle.findings.proofs.Rooms.{full-length}
 use lib.ListN.{length, length-replicate}
 use Rattle.findings.proofs.Bodies.{clearance-judged}
 use Rattle.closing.proofs.Laws.{cleared-all}
-use mathlib.Core.Path.{_≡_, refl, sym, _∙_, ap}
+use mathlib.Core.Path.{refl, sym, _∙_, ap}
 use borrow.Author.Needs.{needs}
 use Rattle.findings.proofs.clearance_fault.Statement.{statement}
 use Rattle.findings.proofs.clearance_fault.Tie as tie

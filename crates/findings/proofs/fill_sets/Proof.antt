@@ -3,7 +3,7 @@ use Rattle.findings.proofs.Rooms.{filled, filled-none, filled-more, fil
 use lib.ListN.{length, length-set}
 use Prim.Native.Nat.{_≤_, _-_}
 use native.Mathlib.Omega.{arith}
-use mathlib.Core.Path.{_≡_, refl, sym, _∙_, ap}
+use mathlib.Core.Path.{_≡_, refl}
 use borrow.Author.Needs.{needs}
 use Rattle.findings.proofs.fill_sets.Statement.{statement}
 use Rattle.findings.proofs.fill_sets.Tie as tie

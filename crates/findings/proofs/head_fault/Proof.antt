@@ -1,6 +1,6 @@
 -- `findings::head_fault` meets its contract: its tests are those of the definition.
 use Rattle.meaning.specs.Findings.{headFault, selectOf, findingKind}
-use mathlib.Core.Path.{_≡_, refl, sym, _∙_, ap}
+use mathlib.Core.Path.{_∙_}
 use borrow.Author.Needs.{needs}
 use Rattle.findings.proofs.head_fault.Statement.{statement}
 use Rattle.findings.proofs.head_fault.Tie as tie

@@ -2,7 +2,7 @@
 use Rattle.findings.proofs.Walks.{leaf-place, leaf-next, leaf-closed, leaf-open, leaf-not}
 use denote.Ref.{now}
 use native.Mathlib.Omega.{arith}
-use mathlib.Core.Path.{_≡_, refl, sym, _∙_, ap}
+use mathlib.Core.Path.{refl}
 use borrow.Author.Needs.{needs}
 use Rattle.findings.proofs.leaf.Statement.{statement}
 use Rattle.findings.proofs.leaf.Tie as tie

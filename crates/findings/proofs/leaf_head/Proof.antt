@@ -1,6 +1,5 @@
 -- `findings::leaf_head` meets its contract: by what may stand there.
 use Rattle.meaning.specs.Clearance.{leafHead}
-use mathlib.Core.Path.{_≡_, refl, sym, _∙_, ap}
 use borrow.Author.Needs.{needs}
 use Rattle.findings.proofs.leaf_head.Statement.{statement}
 use Rattle.findings.proofs.leaf_head.Tie as tie

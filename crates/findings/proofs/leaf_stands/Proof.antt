@@ -1,7 +1,6 @@
 -- `findings::leaf_stands` meets its contract: rule by rule.
 use Rattle.meaning.specs.Clearance.{leafStands}
-use borrow.Author.Tests.{eqb-true, ne-eqb, le-leb, lt-leb, eq-eqb}
-use mathlib.Core.Path.{_≡_, refl, sym, _∙_, ap}
+use borrow.Author.Tests.{ne-eqb, eq-eqb}
 use borrow.Author.Needs.{needs}
 use Rattle.findings.proofs.leaf_stands.Statement.{statement}
 use Rattle.findings.proofs.leaf_stands.Tie as tie

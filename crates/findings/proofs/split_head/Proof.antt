@@ -1,8 +1,6 @@
 -- `findings::split_head` meets its contract: by the set.
 use Rattle.meaning.specs.Clearance.{splitHead}
-use borrow.Author.Tests.{eqb-true, ne-eqb, le-leb, lt-leb, eq-eqb}
-use mathlib.Core.Path.{_≡_, refl, sym, _∙_, ap}
-use borrow.Author.Needs.{needs}
+use borrow.Author.Tests.{ne-eqb}
 use Rattle.findings.proofs.split_head.Statement.{statement}
 use Rattle.findings.proofs.split_head.Tie as tie
 use Rattle.findings.proofs.split_head.Reads as reads

@@ -1,6 +1,5 @@
 -- `findings::splits` meets its contract: its tests are those of the definition.
 use Rattle.findings.specs.Walks.{splitsAt}
-use mathlib.Core.Path.{_≡_, refl, sym, _∙_, ap}
 use borrow.Author.Needs.{needs}
 use Rattle.findings.proofs.splits.Statement.{statement}
 use Rattle.findings.proofs.splits.Tie as tie

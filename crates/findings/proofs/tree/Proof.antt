@@ -1,7 +1,7 @@
 -- `findings::tree` meets its contract: what is no split is walked alike however many splits are allowed.
 use Rattle.findings.proofs.Walks.{no-split}
 use native.Mathlib.Omega.{arith}
-use mathlib.Core.Path.{_≡_, refl, sym, _∙_, ap}
+use mathlib.Core.Path.{sym, _∙_}
 use borrow.Author.Needs.{needs}
 use Rattle.findings.proofs.tree.Statement.{statement}
 use Rattle.findings.proofs.tree.Tie as tie

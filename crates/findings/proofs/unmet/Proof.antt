@@ -1,6 +1,5 @@
 -- `findings::unmet` meets its contract: what the select gives exceeds the dependency.
 use Rattle.meaning.specs.Rules.{unmetIn}
-use mathlib.Core.Path.{_≡_, refl, sym, _∙_, ap}
 use borrow.Author.Needs.{needs}
 use Rattle.findings.proofs.unmet.Statement.{statement}
 use Rattle.findings.proofs.unmet.Tie as tie

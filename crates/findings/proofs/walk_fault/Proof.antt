@@ -1,6 +1,5 @@
 -- `findings::walk_fault` meets its contract: by where the walk ended.
 use Rattle.findings.proofs.Bodies.{ended-on, ended-malformed, ended-open}
-use mathlib.Core.Path.{_≡_, refl, sym, _∙_, ap}
 use borrow.Author.Needs.{needs}
 use Rattle.findings.proofs.walk_fault.Statement.{statement}
 use Rattle.findings.proofs.walk_fault.Tie as tie

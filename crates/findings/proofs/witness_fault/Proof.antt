@@ -1,6 +1,6 @@
 -- `findings::witness_fault` meets its contract: the table check's own parts, in order, then the select.
 use Rattle.findings.proofs.Bodies.{values-there, values-many, witness-unreadable, witness-broken, witness-judged, table-is}
-use mathlib.Core.Path.{_≡_, refl, sym, _∙_, ap}
+use mathlib.Core.Path.{sym, _∙_}
 use borrow.Author.Needs.{needs}
 use Rattle.findings.proofs.witness_fault.Statement.{statement}
 use Rattle.findings.proofs.witness_fault.Tie as tie

@@ -1,5 +1,5 @@
 -- `line::answer_of` meets its contract: case by case.
-use mathlib.Core.Path.{_≡_, refl, sym, _∙_, ap}
+use mathlib.Core.Path.{sym, ap}
 use Rattle.meaning.specs.Base.{answerOf}
 use borrow.Author.Needs.{needs}
 use Rattle.line.proofs.answer_of.Statement.{statement}

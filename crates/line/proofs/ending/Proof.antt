@@ -1,5 +1,5 @@
 -- `line::ending` meets its contract: a dash for no name, else the name, and the newline behind it.
-use mathlib.Core.Path.{_≡_, refl, sym, _∙_, ap}
+use mathlib.Core.Path.{_∙_}
 use native.Mathlib.Omega.{arith}
 use Rattle.line.proofs.Laws.{dash-written, name-written}
 use borrow.Author.Needs.{needs}

@@ -1,5 +1,4 @@
 -- `line::line` meets its contract: the parts are those of the definition, one behind the other.
-use mathlib.Core.Path.{_≡_, refl, sym, _∙_, ap}
 use native.Mathlib.Omega.{arith}
 use Rattle.line.proofs.Laws.{lined}
 use borrow.Author.Needs.{needs}

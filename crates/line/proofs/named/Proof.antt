@@ -1,6 +1,5 @@
 -- `line::named` meets its contract: its tests are those of the definition.
 use Rattle.line.proofs.Laws.{first-place, second-place, no-place}
-use borrow.Author.Needs.{needs}
 use Rattle.line.proofs.named.Statement.{statement}
 use Rattle.line.proofs.named.Tie as tie
 use Rattle.line.proofs.named.Reads as reads

@@ -1,5 +1,5 @@
 -- `line::number` meets its contract: the digits are 12 at most, and the space stands behind them.
-use mathlib.Core.Path.{_≡_, refl, sym, _∙_, ap}
+use mathlib.Core.Path.{_∙_}
 use native.Mathlib.Omega.{arith}
 use Rattle.line.proofs.Laws.{digits-short, number-written}
 use borrow.Author.Needs.{needs}

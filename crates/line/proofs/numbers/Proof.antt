@@ -1,5 +1,5 @@
 -- `line::numbers` meets its contract: each number stands behind the one before it.
-use mathlib.Core.Path.{_≡_, refl, sym, _∙_, ap}
+use mathlib.Core.Path.{_∙_}
 use native.Mathlib.Omega.{arith}
 use Rattle.line.proofs.Laws.{numbers-written}
 use borrow.Author.Needs.{needs}

@@ -1,5 +1,5 @@
 -- `line::offender_of` meets its contract: case by case.
-use mathlib.Core.Path.{_≡_, refl, sym, _∙_, ap}
+use mathlib.Core.Path.{sym, _∙_, ap}
 use Rattle.meaning.specs.Program.{offender}
 use borrow.Author.Needs.{needs}
 use Rattle.line.proofs.offender_of.Statement.{statement}

@@ -3,7 +3,7 @@ use Rattle.names.specs.Keys.{keyOf}
 use lib.ListN.{length}
 use Prim.Native.Nat.{_-_}
 use native.Mathlib.Omega.{arith}
-use mathlib.Core.Path.{_≡_, refl, sym, _∙_, ap}
+use mathlib.Core.Path.{_≡_, _∙_}
 use borrow.Author.Needs.{needs}
 use Rattle.names.proofs.key.Statement.{statement}
 use Rattle.names.proofs.key.Tie as tie

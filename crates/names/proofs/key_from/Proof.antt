@@ -1,5 +1,5 @@
 -- `names::key_from` meets its contract: it is the key of the part that the name's offset and length give.
-use mathlib.Core.Path.{_≡_, refl, sym, _∙_, ap}
+use mathlib.Core.Path.{_∙_}
 use borrow.Author.Needs.{needs}
 use Rattle.names.proofs.key_from.Statement.{statement}
 use Rattle.names.proofs.key_from.Tie as tie

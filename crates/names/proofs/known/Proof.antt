@@ -3,7 +3,7 @@ use Rattle.names.proofs.Laws.{other-key, other-text, headed-at}
 use borrow.Author.Tests.{not-true}
 use Prim.Native.Nat.{_+_}
 use native.Mathlib.Omega.{arith}
-use mathlib.Core.Path.{_≡_, refl, sym, _∙_, ap}
+use mathlib.Core.Path.{_∙_}
 use borrow.Author.Needs.{needs}
 use Rattle.names.proofs.known.Statement.{statement}
 use Rattle.names.proofs.known.Tie as tie

@@ -2,7 +2,7 @@
 use Rattle.names.proofs.Laws.{part-small}
 use Rattle.names.specs.Keys.{keyOf}
 use native.Mathlib.Omega.{arith}
-use mathlib.Core.Path.{_≡_, refl, sym, _∙_, ap}
+use mathlib.Core.Path.{_∙_, ap}
 use borrow.Author.Needs.{needs}
 use Rattle.names.proofs.name_key.Statement.{statement}
 use Rattle.names.proofs.name_key.Tie as tie

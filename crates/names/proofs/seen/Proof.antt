@@ -2,7 +2,6 @@
 use mathlib.Core.Bool.{true≢false}
 use Rattle.names.proofs.Laws.{At, started, less, turned}
 use native.Mathlib.Omega.{arith}
-use mathlib.Core.Path.{_≡_, refl, sym, _∙_, ap}
 use borrow.Author.Needs.{needs}
 use Rattle.names.proofs.seen.Statement.{statement}
 use Rattle.names.proofs.seen.Tie as tie

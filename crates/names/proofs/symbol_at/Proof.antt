@@ -1,7 +1,7 @@
 -- `names::symbol_at` meets its contract: where the name is new, only the rest is tested.
 use Rattle.names.proofs.Laws.{fits-is}
 use Rattle.meaning.specs.Book.{recordAt}
-use mathlib.Core.Path.{_≡_, refl, sym, _∙_, ap}
+use mathlib.Core.Path.{_∙_}
 use borrow.Author.Needs.{needs}
 use Rattle.names.proofs.symbol_at.Statement.{statement}
 use Rattle.names.proofs.symbol_at.Tie as tie

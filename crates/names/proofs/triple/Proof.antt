@@ -1,7 +1,6 @@
 -- `names::triple` meets its contract: a u16 and the byte behind it.
 use Rattle.names.specs.Keys.{triple}
 use native.Mathlib.Omega.{arith}
-use mathlib.Core.Path.{_≡_, refl, sym, _∙_, ap}
 use borrow.Author.Needs.{needs}
 use Rattle.names.proofs.triple.Statement.{statement}
 use Rattle.names.proofs.triple.Tie as tie

@@ -2,7 +2,6 @@ use Rattle.names.proofs.Widening.{widens, widens-to}
 -- `names::widened` meets its contract: the span reaches down or up to the tag, or has it.
 use Prim.Native.Nat.{_+_, _-_, _*_, _/_, _%_}
 use native.Mathlib.Omega.{arith}
-use mathlib.Core.Path.{_≡_, refl, sym, _∙_, ap}
 use borrow.Author.Needs.{needs}
 use Rattle.names.proofs.widened.Statement.{statement}
 use Rattle.names.proofs.widened.Tie as tie

@@ -1,6 +1,6 @@
 -- `plaitcrumb::pack` meets its contract: case by case.
 use Rattle.meaning.specs.Base.{packed, answerOf}
-use mathlib.Core.Path.{_≡_, refl, sym, _∙_, ap}
+use mathlib.Core.Path.{sym, ap}
 use borrow.Author.Needs.{needs}
 use Rattle.plaitcrumb.proofs.pack.Statement.{statement}
 use Rattle.plaitcrumb.proofs.pack.Tie as tie

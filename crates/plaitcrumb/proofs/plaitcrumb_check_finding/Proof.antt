@@ -1,6 +1,6 @@
 -- `plaitcrumb::plaitcrumb_check_finding` meets its contract: it is the finding check, packed.
 use Rattle.meaning.specs.Base.{packed, answerOf}
-use mathlib.Core.Path.{_≡_, refl, sym, _∙_, ap}
+use mathlib.Core.Path.{_∙_, ap}
 use borrow.Author.Needs.{needs}
 use Rattle.plaitcrumb.proofs.plaitcrumb_check_finding.Statement.{statement}
 use Rattle.plaitcrumb.proofs.plaitcrumb_check_finding.Tie as tie

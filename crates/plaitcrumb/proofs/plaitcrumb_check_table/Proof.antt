@@ -1,6 +1,6 @@
 -- `plaitcrumb::plaitcrumb_check_table` meets its contract: it is the table check, packed.
 use Rattle.meaning.specs.Base.{packed, answerOf}
-use mathlib.Core.Path.{_≡_, refl, sym, _∙_, ap}
+use mathlib.Core.Path.{_∙_, ap}
 use borrow.Author.Needs.{needs}
 use Rattle.plaitcrumb.proofs.plaitcrumb_check_table.Statement.{statement}
 use Rattle.plaitcrumb.proofs.plaitcrumb_check_table.Tie as tie

@@ -1,6 +1,6 @@
 -- `plaitcrumb::plaitcrumb_name` meets its contract: nothing for a bad book and for no symbol, else where the name stands.
 use native.Mathlib.Omega.{arith}
-use mathlib.Core.Path.{_≡_, refl, sym, _∙_, ap}
+use mathlib.Core.Path.{_∙_}
 use Rattle.plaitcrumb.proofs.Laws.{place-bad, place-past, place-is}
 use borrow.Author.Needs.{needs}
 use Rattle.plaitcrumb.proofs.plaitcrumb_name.Statement.{statement}

@@ -2,7 +2,7 @@
 use Rattle.raw.proofs.Laws.{half-end}
 use Rattle.meaning.specs.Base.{half}
 use native.Mathlib.Omega.{arith}
-use mathlib.Core.Path.{_≡_, refl, sym, _∙_, ap}
+use mathlib.Core.Path.{sym, _∙_}
 use borrow.Author.Needs.{needs}
 use Rattle.raw.proofs.half.Statement.{statement}
 use Rattle.raw.proofs.half.Tie as tie

@@ -1,5 +1,5 @@
 -- `raw::word` meets its contract: past the end its bytes are 0, else it reads two halves.
-use Rattle.meaning.specs.Base.{word, half}
+use Rattle.meaning.specs.Base.{word}
 use native.Mathlib.Omega.{arith}
 use Prim.Native.Nat.{_+_}
 use mathlib.Core.Path.{_≡_, sym, _∙_}

@@ -1,10 +1,9 @@
 -- `records::digits_alone` meets its contract: it goes on while every byte so far passes, and stops at the first that does not.
 use borrow.Author.Tests.{not-true, not-false}
-use mathlib.Core.Bool.{true, false, not}
+use mathlib.Core.Bool.{true}
 -- `records::digits_alone` meets its contract: it goes on while every byte so far passes, and stops at the first that does not.
 use native.Mathlib.Omega.{arith}
-use mathlib.Core.Path.{_≡_, refl, sym}
-use mathlib.Core.Bool.{true}
+use mathlib.Core.Path.{_≡_, sym}
 use lib.ListN.{getD}
 use Prim.Native.Nat.{_≤_, _+_, _-_}
 use Rattle.meaning.specs.Base.{allBelow}

@@ -1,5 +1,5 @@
 -- `records::leaf_fits` meets its contract: op by op.
-use borrow.Author.Tests.{ne-eqb, le-leb, lt-leb}
+use borrow.Author.Tests.{ne-eqb}
 use Rattle.meaning.specs.Book.{leafFits}
 use borrow.Author.Needs.{needs}
 use Rattle.records.proofs.leaf_fits.Statement.{statement}

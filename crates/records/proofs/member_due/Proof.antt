@@ -3,8 +3,7 @@ use Rattle.meaning.specs.Book.{memberDue}
 use Rattle.records.proofs.Laws.{due-after}
 -- x
 use native.Mathlib.Omega.{arith}
-use mathlib.Core.Path.{_≡_, refl, sym}
-use Rattle.meaning.specs.Book.{memberDue, firstMember, memberCount}
+use mathlib.Core.Path.{refl}
 use borrow.Author.Needs.{needs}
 use Rattle.records.proofs.member_due.Statement.{statement}
 use Rattle.records.proofs.member_due.Tie as tie

@@ -1,8 +1,8 @@
 -- `records::new_member` meets its contract: it goes on while every earlier member is another, and stops at the first that is not.
 use native.Mathlib.Omega.{arith}
-use mathlib.Core.Path.{_≡_, refl, sym}
+use mathlib.Core.Path.{_≡_, sym}
 use borrow.Author.Tests.{not-true, not-false}
-use mathlib.Core.Bool.{true, false, not}
+use mathlib.Core.Bool.{true, not}
 use Prim.Native.Nat.{_≤_, _-_}
 use lib.Dec.{eqb}
 use Rattle.meaning.specs.Base.{allBelow}

@@ -1,10 +1,9 @@
 -- `records::new_name` meets its contract: it goes on while every earlier name is another, and stops at the first that is not.
 use borrow.Author.Tests.{not-true, not-false}
-use mathlib.Core.Bool.{true, false, not}
+use mathlib.Core.Bool.{true}
 -- `records::new_name` meets its contract: it goes on while every earlier name is another, and stops at the first that is not.
 use native.Mathlib.Omega.{arith}
-use mathlib.Core.Path.{_≡_, refl, sym}
-use mathlib.Core.Bool.{true}
+use mathlib.Core.Path.{_≡_, sym}
 use Prim.Native.Nat.{_≤_, _-_}
 use Rattle.meaning.specs.Base.{allBelow}
 use Rattle.meaning.proofs.Below.{all-none, all-more, all-stop}

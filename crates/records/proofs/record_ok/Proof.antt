@@ -1,5 +1,5 @@
 -- `records::record_ok` meets its contract: section by section.
-use borrow.Author.Tests.{ne-eqb, le-leb, lt-leb}
+use borrow.Author.Tests.{ne-eqb}
 use Rattle.meaning.specs.Book.{recordOk}
 use borrow.Author.Needs.{needs}
 use Rattle.records.proofs.record_ok.Statement.{statement}

@@ -1,5 +1,4 @@
 use borrow.Author.Tests.{ne-eqb}
-use borrow.Author.Needs.{needs}
 use Rattle.spell.proofs.letter_of.Statement.{statement}
 use Rattle.spell.proofs.letter_of.Tie as tie
 use Rattle.spell.proofs.letter_of.Reads as reads

@@ -1,11 +1,10 @@
-use Rattle.spell.proofs.Laws.{rest-of, on-left, on-right}
-use Rattle.meaning.specs.Base.{sameText}
+use Rattle.spell.proofs.Laws.{rest-of, on-right}
 use Rattle.meaning.specs.Spell.{spelledInt}
 use Rattle.spell.specs.Leaves.{spelledLeaf}
 use mir.ValLaws.{toZ-ofZ}
 use mir.Syntax.{w32}
 use mathlib.Core.List.{_∷_, []}
-use mathlib.Core.Path.{_≡_, sym, _∙_, ap}
+use mathlib.Core.Path.{sym, _∙_, ap}
 use borrow.Author.Needs.{needs}
 use Rattle.spell.proofs.same_as.Statement.{statement}
 use Rattle.spell.proofs.same_as.Tie as tie

@@ -2,7 +2,7 @@ use Rattle.spell.proofs.Laws.{last-digit, next-digit, no-digits}
 use native.Mathlib.Nat.{mod-lt}
 use Rattle.meaning.specs.Spell.{digits}
 use native.Mathlib.Omega.{arith}
-use mathlib.Core.Path.{_≡_, refl, sym}
+use mathlib.Core.Path.{_≡_, refl}
 use mathlib.Core.List.{[]}
 use lib.ListN.{length, drop, length-set}
 use Prim.Native.Nat.{_≤_, _-_}

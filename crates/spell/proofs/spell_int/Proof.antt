@@ -1,9 +1,6 @@
 use Rattle.spell.proofs.Signs.{int-minus, int-plus}
-use Rattle.spell.proofs.Laws.{fronted}
-use Rattle.spell.proofs.Signs.{below, above}
 use native.Mathlib.Omega.{arith}
 use lib.ListN.{length-set}
-use mathlib.Core.Path.{_≡_, sym, _∙_}
 use borrow.Author.Needs.{needs}
 use Rattle.spell.proofs.spell_int.Statement.{statement}
 use Rattle.spell.proofs.spell_int.Tie as tie
