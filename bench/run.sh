@@ -15,9 +15,9 @@ git diff --quiet HEAD -- . ':!bench/results.md' || commit="$commit, with changes
     cat <<END
 # Speed and stack
 
-Written by \`make bench\`. Both sides in one run, in turn, medians; every table keeps every rule and every finding is accepted, so that the
-whole check runs. *archive* is the proved code, *second* the second program (\`tests/second\`, plain Rust, built for release), *ratio* the one
-by the other.
+Written by \`make bench\`. Both sides in one run, in turn, medians; every table keeps every rule, every clearance is accepted and the
+witness has its select met, so that the whole check runs. *archive* is the proved code, *second* the second program
+(\`tests/second\`, plain Rust, built for release), *ratio* the one by the other.
 
 - Machine: $(sed -n 's/^model name[^:]*: //p' /proc/cpuinfo | sort -u | head -n 1), $(nproc) cores, $(awk '/^MemTotal/ { printf "%.0f GiB", $2 / 1048576 }' /proc/meminfo), $(uname -sm)
 - Commit: $commit

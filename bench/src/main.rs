@@ -8,7 +8,10 @@ mod shapes;
 use differential::archive::{self, FINDINGS, NO_FINDINGS};
 use differential::big::Big;
 use second::Answer;
-use shapes::{boolean_book, full_boolean_book, GROWTH, SHAPES, USUAL};
+use shapes::{
+    boolean_book, chain_book, choice_book, equality_book, full_boolean_book, tristate_book, GROWTH,
+    SHAPES, USUAL,
+};
 use std::hint::black_box;
 use std::time::{Duration, Instant};
 
@@ -76,14 +79,14 @@ fn table(model: &[u8], table: &[u8], nodes: usize) -> Times {
     )
 }
 
-/// Times the finding check; both sides must answer 0.
-fn finding(model: &[u8], finding: &[u8], nodes: usize, symbols: usize) -> Times {
+/// Times the finding check; both sides must give this answer.
+fn finding(model: &[u8], finding: &[u8], nodes: usize, symbols: usize, answer: Answer) -> Times {
     let (mut ours, mut theirs) = (vec![0xee; nodes], vec![0xee; nodes]);
     let (mut our_marks, mut their_marks) = (vec![0xdd; symbols], vec![0xdd; symbols]);
-    let kept = Some(Answer::KEPT);
-    assert_eq!(archive::check_finding(model, finding, &mut ours, &mut our_marks), kept);
-    let theirs_kept = second::check_finding(model, finding, &mut theirs, &mut their_marks);
-    assert_eq!(Some(theirs_kept), kept);
+    let given = archive::check_finding(model, finding, &mut ours, &mut our_marks);
+    assert_eq!(given, Some(answer));
+    let judged = second::check_finding(model, finding, &mut theirs, &mut their_marks);
+    assert_eq!(judged, answer);
     Times::of(
         || _ = black_box(archive::check_finding(model, finding, &mut ours, &mut our_marks)),
         || _ = black_box(second::check_finding(model, finding, &mut theirs, &mut their_marks)),
@@ -141,20 +144,33 @@ fn tables() {
     );
 }
 
-/// The complete clearance of 13 booleans, alone and in a full book.
+/// The complete clearance of each book made for it, and a witness on the usual
+/// book: its table keeps every rule, and select 0 is met in it.
 fn findings() {
     if !FINDINGS {
         println!("\n{NO_FINDINGS}");
         return;
     }
-    let books = [("clearance", boolean_book()), ("clearance, full book", full_boolean_book())];
+    let books = [
+        ("13 booleans", boolean_book()),
+        ("13 booleans, full book", full_boolean_book()),
+        ("8 tristates", tristate_book()),
+        ("two choices", choice_book()),
+        ("equalities", equality_book()),
+        ("a chain of nodes", chain_book()),
+    ];
     for (what, sketch) in books {
         let model = sketch.bytes();
         let clearance = second::complete_clearance(&model, 0).expect("a complete clearance");
         let counts = sketch.counts();
-        let what = format!("finding: {what}, {} bytes", clearance.len());
-        line(&what, counts, model.len(), &finding(&model, &clearance, counts[1], counts[0]));
+        let times = finding(&model, &clearance, counts[1], counts[0], Answer::KEPT);
+        line(&format!("clearance: {what}"), counts, model.len(), &times);
     }
+    let big = Big::new(&USUAL, SEED);
+    let (model, counts) = (big.model(), big.sketch.counts());
+    let witness = [&[0, 0, 0, 0], &big.table()[..]].concat();
+    let times = finding(&model, &witness, counts[1], counts[0], Answer::at(24, 0));
+    line("witness: the table of b", counts, model.len(), &times);
 }
 
 /// The usual shape, smaller and larger.

@@ -86,16 +86,93 @@ const BOOLEANS: u16 = 13;
 /// prompt. The target of select 0 depends on nothing, so its complete
 /// clearance is accepted.
 pub fn boolean_book() -> Sketch {
-    let mut sketch = Sketch::default();
-    sketch.node(0, 0, 0);
-    sketch.node(0, 2, 0);
-    (0..BOOLEANS).for_each(|symbol| _ = sketch.node(1, symbol, 0));
+    let mut sketch = leaves(BOOLEANS);
     for symbol in 0..BOOLEANS {
         sketch.symbol(0, &format!("OPTION_{symbol}"), 1 - symbol % 2, 1);
     }
     for symbol in 1..BOOLEANS {
         sketch.selects.push([symbol - 1, symbol, 2 + (symbol + 5) % BOOLEANS]);
         sketch.defaults.push([symbol, 1, 2 + symbol / 2]);
+    }
+    sketch
+}
+
+/// The first nodes of a book: n, y, and one for each symbol.
+fn leaves(symbols: u16) -> Sketch {
+    let mut sketch = Sketch::default();
+    sketch.node(0, 0, 0);
+    sketch.node(0, 2, 0);
+    (0..symbols).for_each(|symbol| _ = sketch.node(1, symbol, 0));
+    sketch
+}
+
+/// Eight tristates in which each selects the next under a condition of its own,
+/// made of every kind of node, and has two defaults.
+pub fn tristate_book() -> Sketch {
+    let count = 8;
+    let mut sketch = leaves(count);
+    for symbol in 0..count {
+        sketch.symbol(1, &format!("TRISTATE_{symbol}"), 1 - symbol % 2, 1);
+    }
+    for symbol in 1..count {
+        let both = sketch.node(6, 1 + symbol, 2 + (symbol + 3) % count);
+        let not = sketch.node(5, 2 + (symbol + 5) % count, 0);
+        let either = sketch.node(7, both, not);
+        let equal = sketch.node(8, 2 + symbol, 2 + (symbol + 1) % count);
+        let all = sketch.node(6, either, equal);
+        sketch.selects.push([symbol - 1, symbol, either]);
+        sketch.defaults.push([symbol, 2 + symbol / 2, all]);
+        sketch.defaults.push([symbol, 1, equal]);
+    }
+    sketch
+}
+
+/// Thirteen booleans in two mandatory choices.
+pub fn choice_book() -> Sketch {
+    let mut sketch = leaves(BOOLEANS);
+    for symbol in 0..BOOLEANS {
+        sketch.symbol(0, &format!("MEMBER_{symbol}"), 1, 1);
+    }
+    sketch.selects.push([0, 1, 1]);
+    sketch.choice(0, 1, 1, &(0..6).collect::<Vec<_>>());
+    sketch.choice(0, 1, 2, &(6..BOOLEANS).collect::<Vec<_>>());
+    sketch
+}
+
+/// Twelve booleans whose conditions are equalities with a text, and of an int
+/// and a hex.
+pub fn equality_book() -> Sketch {
+    let count = 12;
+    let mut sketch = leaves(count);
+    let (text, int, hex) = (sketch.text_node(b"y"), sketch.int(-1_234_567), sketch.hex(0xbeef));
+    for symbol in 0..count {
+        sketch.symbol(0, &format!("EQUAL_{symbol}"), 1 - symbol % 2, 1);
+    }
+    for symbol in 1..count {
+        let equal = sketch.node(8, 2 + symbol, text);
+        let unlike = sketch.node(9, int, hex);
+        let both = sketch.node(6, equal, unlike);
+        let other = sketch.node(9, 2 + (symbol + 4) % count, text);
+        sketch.selects.push([symbol - 1, symbol, both]);
+        sketch.defaults.push([symbol, 1, other]);
+    }
+    sketch
+}
+
+/// Twelve booleans whose conditions stand on one chain of 200 nodes.
+pub fn chain_book() -> Sketch {
+    let count = 12;
+    let mut sketch = leaves(count);
+    for symbol in 0..count {
+        sketch.symbol(0, &format!("CHAIN_{symbol}"), 1 - symbol % 2, 1);
+    }
+    let mut last = 2;
+    for step in 0..200u16 {
+        last = sketch.node(6 + (step % 2) as u8, 2 + step % count, last);
+    }
+    for symbol in 1..count {
+        sketch.selects.push([symbol - 1, symbol, last - symbol * 3]);
+        sketch.defaults.push([symbol, 1, last - symbol]);
     }
     sketch
 }
