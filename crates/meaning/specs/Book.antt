@@ -7,7 +7,7 @@ use mathlib.Core.List.{List, [], _∷_}
 use lib.Dec.{eqb, leb, ltb}
 use lib.ListN.{length, getD}
 use Rattle.meaning.specs.declared.Outcome.{Outcome}
-use Rattle.meaning.specs.declared.Outcome.the-variants.{Clean, Fault}
+use Rattle.meaning.specs.declared.Outcome.the-variants.{Fault}
 use Rattle.meaning.specs.Base.{pick, half, part, sameText, allBelow, when, orElse, firstBelow, ifClean}
 
 -- CONTENTS

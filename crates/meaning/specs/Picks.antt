@@ -1,7 +1,7 @@
 -- Closing a leaf, said literally: its rule is broken under every independent pick. `Clearance` says how that is worked out. Assumes nothing: these are definitions.
 use Prim.Native.Nat.{ℕ}
 use mathlib.Core.Path.{_≡_}
-use mathlib.Core.Bool.{Bool, true, false, _&&_, _||_, not}
+use mathlib.Core.Bool.{Bool, true, false, _&&_, not}
 use mathlib.Core.List.{List}
 use lib.Dec.{eqb}
 use Rattle.tri.specs.Three.{andOf}

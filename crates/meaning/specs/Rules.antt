@@ -1,14 +1,14 @@
 -- The rules in order, the verdict on a table, and the node work after it. Assumes nothing: these are definitions.
-use Prim.Native.Nat.{ℕ, zero, suc, _+_, _-_}
-use mathlib.Core.Bool.{Bool, true, false, _&&_, _||_, not}
-use mathlib.Core.List.{List, [], _∷_, _++_}
+use Prim.Native.Nat.{ℕ}
+use mathlib.Core.Bool.{Bool, false, _&&_, _||_, not}
+use mathlib.Core.List.{List, _++_}
 use lib.Dec.{eqb, leb, ltb}
-use lib.IntN.{ℤ, pos, negsuc}
+use lib.IntN.{ℤ}
 use lib.Signed.{leZ}
 use lib.ListN.{length, drop}
 use Rattle.tri.specs.Three.{andOf, orOf}
 use Rattle.meaning.specs.declared.Outcome.{Outcome}
-use Rattle.meaning.specs.declared.Outcome.the-variants.{Clean, Fault}
+use Rattle.meaning.specs.declared.Outcome.the-variants.{Fault}
 use Rattle.meaning.specs.Base.{pick, sameText, countBelow, firstWhere, when, orElse, firstBelow, ifClean, openBase}
 use Rattle.meaning.specs.Book.{symbols, nodes, ranges, choices, typeOf, threeType, rangeSymbol, lowOf, highOf, rangeCondition, choiceKind, mandatoryOf, choicePrompt, memberCount, memberOf, modulesOf, modulesDeclared, selectorOf, targetOf, conditionOf, bookFault, openBook}
 use Rattle.meaning.specs.Table.{Content, aThree, aText, anInt, aHex, contentOf, valueOf, tableFault, openTable}

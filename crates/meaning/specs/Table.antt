@@ -1,14 +1,14 @@
 -- The configuration table: answers 5 and 6, and what stands at a symbol. Assumes nothing: these are definitions.
 use Prim.Native.Nat.{ℕ, zero, suc, _+_, _-_, _*_, _<_, _≤_}
 use mathlib.Core.Path.{_≡_}
-use mathlib.Core.Bool.{Bool, true, false, _&&_, _||_, not}
-use mathlib.Core.List.{List, [], _∷_}
+use mathlib.Core.Bool.{Bool, true, _&&_, _||_, not}
+use mathlib.Core.List.{List}
 use lib.Dec.{eqb, leb, ltb}
 use lib.IntN.{ℤ, pos, negsuc}
 use lib.ListN.{length, getD}
 use Rattle.tri.specs.Three.{triOf}
 use Rattle.meaning.specs.declared.Outcome.{Outcome}
-use Rattle.meaning.specs.declared.Outcome.the-variants.{Clean, Fault}
+use Rattle.meaning.specs.declared.Outcome.the-variants.{Fault}
 use Rattle.meaning.specs.declared.Value.{Value}
 use Rattle.meaning.specs.declared.Value.the-variants.{Three, Text, Int, Hex}
 use Rattle.meaning.specs.declared.Entry.{Entry}

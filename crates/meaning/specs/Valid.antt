@@ -1,13 +1,12 @@
 -- VALID, said apart from the tests: one field a rule, for all symbols, ranges and choices, in the shape of document 002's equations 15 to
 -- 26 as document 01 mends them. Lower and Default are said by what they are and not by how they are worked out. Assumes nothing: these are definitions.
-use Prim.Native.Nat.{ℕ, _+_, _≤_, _<_, min, max}
+use Prim.Native.Nat.{ℕ, _≤_, _<_, min, max}
 use mathlib.Core.Path.{_≡_}
-use mathlib.Core.Bool.{Bool, true, false}
 use mathlib.Core.Logic.{_⊎_, _≢_}
-use mathlib.Core.List.{List, [], _∷_}
+use mathlib.Core.List.{List, []}
 use lib.IntN.{ℤ}
 use lib.Signed.{_≤ℤ_}
-use Rattle.meaning.specs.Book.{symbols, nodes, defaults, selects, ranges, choices, typeOf, promptOf, dependOf, defaultSymbol, defaultValue, defaultCondition, selectorOf, targetOf, conditionOf, rangeSymbol, lowOf, highOf, rangeCondition, choiceKind, mandatoryOf, choicePrompt, memberCount, memberOf, modulesOf}
+use Rattle.meaning.specs.Book.{symbols, defaults, selects, ranges, choices, typeOf, promptOf, dependOf, defaultSymbol, defaultValue, defaultCondition, selectorOf, targetOf, conditionOf, rangeSymbol, lowOf, highOf, rangeCondition, choiceKind, mandatoryOf, choicePrompt, memberCount, memberOf, modulesOf}
 use Rattle.meaning.specs.Table.{Content, aThree, aText, anInt, aHex, contentOf, valueOf}
 use Rattle.meaning.specs.Values.{val, leafOf, nodeValues}
 

@@ -1,7 +1,7 @@
 -- The value of each node in a table, Lower and Default. Assumes nothing: these are definitions.
-use Prim.Native.Nat.{ℕ, zero, suc, _+_, _-_, _*_}
-use mathlib.Core.Bool.{Bool, true, false, _&&_}
-use mathlib.Core.List.{List, [], _∷_}
+use Prim.Native.Nat.{ℕ, suc, _+_, _-_, _*_}
+use mathlib.Core.Bool.{Bool}
+use mathlib.Core.List.{List, []}
 use lib.Dec.{eqb, leb, ltb}
 use lib.ListN.{getD}
 use Rattle.tri.specs.Three.{triOf, notOf, andOf, orOf}

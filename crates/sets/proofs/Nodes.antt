@@ -2,17 +2,17 @@
 use mathlib.Core.Path.{_≡_, refl, sym, _∙_, ap}
 use mathlib.Core.Logic.{_⊎_, ⊎-elim, inl, inr}
 use mathlib.Core.Bool.{Bool, true, false}
-use mathlib.Core.List.{List, [], _∷_, _++_}
+use mathlib.Core.List.{List, []}
 use Prim.Native.Nat.{ℕ, zero, suc, _+_, _-_, _≤_, _<_}
 use native.Mathlib.Nat.{eq-or-lt-of-le, le-of-suc-le-suc}
 use native.Mathlib.Omega.{arith}
-use lib.Dec.{eqb, leb, ltb}
-use lib.ListN.{length, getD, set, replicate, length-set, length-replicate, getD-replicate, List·getD-append, List·getD-eq-default}
+use lib.Dec.{eqb, ltb}
+use lib.ListN.{getD, set, replicate, length-set, length-replicate, getD-replicate, List·getD-append, List·getD-eq-default}
 use lib.Seq.{getD-at, getD-set-same, getD-set-other}
 use borrow.Author.Tests.{eqb-true, eqb-false, ltb-true, ltb-false, ne-eqb, le-leb, lt-leb}
 use Rattle.meaning.specs.Base.{pick, build}
 use Rattle.meaning.specs.Book.{nodes, opOf, leftOf, rightOf}
-use Rattle.meaning.specs.Sets.{sat, pairs, notSet, leafSet, equalSet, nodeSet, nodeSets}
+use Rattle.meaning.specs.Sets.{sat, pairs, notSet, leafSet, nodeSet, nodeSets}
 use Rattle.meaning.proofs.Folds.{build-length}
 use Rattle.sets.specs.Work.{applied, equalityOf, among, Known}
 

@@ -5,7 +5,7 @@ use mathlib.Core.Path.{_≡_}
 use mathlib.Core.List.{List}
 use mathlib.Core.Logic.{_⊎_}
 use lib.Dec.{eqb}
-use lib.ListN.{length, getD, replicate}
+use lib.ListN.{length, getD}
 use Rattle.tri.specs.Three.{notOf, andOf, orOf}
 use Rattle.meaning.specs.Base.{pick, build}
 use Rattle.meaning.specs.Book.{nodes}

@@ -4,14 +4,14 @@
 // is worked out, so that only what is read is worked out, and that once.
 ghost use mathlib.Core.Path.{_≡_};
 ghost use mathlib.Core.Bool.{_||_};
-ghost use Prim.Native.Nat.{ℕ, _+_, _<_, _≤_, _^_};
+ghost use Prim.Native.Nat.{_+_, _<_, _≤_, _^_};
 ghost use mathlib.Core.List.{[]};
 ghost use lib.Dec.{eqb};
 ghost use lib.ListN.{length};
 ghost use Rattle.tri.specs.Three.{triOf, andOf, orOf};
-ghost use Rattle.meaning.specs.Base.{pick, fold};
+ghost use Rattle.meaning.specs.Base.{pick};
 ghost use Rattle.meaning.specs.Book.{start as startOf, nodes as nodesOf, defaultValue};
-ghost use Rattle.meaning.specs.Sets.{has as hasOf, setOf, only as onlyOf, full as fullOf, withOne, join as joinOf, row, pairs as pairsOf};
+ghost use Rattle.meaning.specs.Sets.{has as hasOf, setOf, only as onlyOf, full as fullOf, withOne, join as joinOf, pairs as pairsOf};
 ghost use Rattle.meaning.specs.Sets.{least as leastOf, most as mostOf, sat, leafSet, isFree, spelledAt, equalAt, equalSet, notSet, nodeSets};
 ghost use Rattle.meaning.specs.Sets.{givenSet, lowerSetStep, lowerSet, defaultSet};
 ghost use Rattle.meaning.specs.Findings.{zeroed};

@@ -1,6 +1,6 @@
 -- Rules 13 and 14 of leaves as they were read: what the same test says of what they stand for. Assumes nothing: these are definitions.
 use Prim.Native.Nat.{ℕ}
-use mathlib.Core.Bool.{Bool, true, false, _&&_}
+use mathlib.Core.Bool.{Bool, false, _&&_}
 use lib.Dec.{leb}
 use lib.IntN.{ℤ}
 use lib.Signed.{leZ}

@@ -1,14 +1,14 @@
 -- `sets::node_among` meets its contract: what is kept is the set itself, operands come before their node, and working out more changes nothing.
 use Rattle.sets.proofs.Nodes.{among-past, node-leaf, node-inner, node-equal, read-known, settled, kept}
-use Rattle.sets.proofs.Nodes.{among-is, among-past, among-whole, node-leaf, node-inner, node-equal, known-read, known-put}
-use Rattle.sets.specs.Work.{Known, among}
+use Rattle.sets.proofs.Nodes.{among-past, node-leaf, node-inner, node-equal}
+use Rattle.sets.specs.Work.{Known}
 use mathlib.Core.Logic.{⊎-elim}
-use lib.ListN.{length, length-set}
+use lib.ListN.{length}
 use denote.Ref.{now}
 use native.Mathlib.Omega.{arith}
-use mathlib.Core.Path.{_≡_, refl, sym, _∙_, ap}
+use mathlib.Core.Path.{_≡_, refl, sym, _∙_}
 use borrow.Author.Needs.{needs}
-use Prim.Native.Nat.{ℕ, _+_, _-_, _<_, _≤_}
+use Prim.Native.Nat.{ℕ, _-_, _<_, _≤_}
 use borrow.Fn.Kinds.{In}
 use borrow.Fn.PlainCycle.{Measures, is, falls, and}
 use Rattle.sets.proofs.node_among.Reads as node-among

@@ -1,6 +1,5 @@
 -- `sets::apply` meets its contract: op by op.
-use borrow.Author.Tests.{eqb-true, ne-eqb, le-leb, lt-leb, eq-eqb}
-use mathlib.Core.Path.{_≡_, refl, sym, _∙_, ap}
+use borrow.Author.Tests.{ne-eqb}
 use borrow.Author.Needs.{needs}
 use Rattle.sets.proofs.apply.Statement.{statement}
 use Rattle.sets.proofs.apply.Tie as tie

@@ -4,7 +4,7 @@ use Rattle.meaning.specs.Findings.{zeroed}
 use lib.ListN.{length, length-set}
 use Prim.Native.Nat.{_≤_, _-_}
 use native.Mathlib.Omega.{arith}
-use mathlib.Core.Path.{_≡_, refl, sym, _∙_, ap}
+use mathlib.Core.Path.{_≡_, refl}
 use borrow.Author.Needs.{needs}
 use Rattle.sets.proofs.clear.Statement.{statement}
 use Rattle.sets.proofs.clear.Tie as tie

@@ -2,9 +2,6 @@
 use Rattle.sets.proofs.Laws.{constant-yes}
 -- `sets::constant` meets its contract: what is above 1 is read as y.
 use Rattle.meaning.specs.Sets.{only}
-use borrow.Author.Tests.{eqb-true, ne-eqb, le-leb, lt-leb, eq-eqb}
-use mathlib.Core.Path.{_≡_, refl, sym, _∙_, ap}
-use borrow.Author.Needs.{needs}
 use Rattle.sets.proofs.constant.Statement.{statement}
 use Rattle.sets.proofs.constant.Tie as tie
 use Rattle.sets.proofs.constant.Reads as reads

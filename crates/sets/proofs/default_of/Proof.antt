@@ -1,5 +1,5 @@
 -- `sets::default_of` meets its contract: what the defaults so far may give, joined with the rest, is the whole, and after one whose condition is never n there is no rest.
-use mathlib.Core.Path.{_≡_, refl, sym, _∙_, ap}
+use mathlib.Core.Path.{_≡_, refl, sym, _∙_}
 use native.Mathlib.Omega.{arith}
 use borrow.Author.Tests.{not-true, not-false}
 use Rattle.sets.specs.Work.{Known}

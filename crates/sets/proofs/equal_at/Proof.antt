@@ -1,6 +1,6 @@
 -- `sets::equal_at` meets its contract: y where the two are spelled alike.
 use Rattle.sets.proofs.Laws.{equal-at-is}
-use mathlib.Core.Path.{_≡_, refl, sym, _∙_, ap}
+use mathlib.Core.Path.{refl}
 use borrow.Author.Needs.{needs}
 use Rattle.sets.proofs.equal_at.Statement.{statement}
 use Rattle.sets.proofs.equal_at.Tie as tie

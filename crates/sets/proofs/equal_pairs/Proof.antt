@@ -1,10 +1,10 @@
 -- `sets::equal_pairs` meets its contract: each turn adds what one pair makes.
 use Rattle.meaning.specs.Sets.{row, equalAt}
 use Rattle.sets.proofs.Laws.{cell-with, cell-skip, rows, rows-none, row-none, rows-with, rows-skip, rows-all}
-use Prim.Native.Nat.{ℕ, _≤_, _<_, _-_}
+use Prim.Native.Nat.{_≤_, _<_, _-_}
 use native.Mathlib.Omega.{arith}
 use mathlib.Core.Logic.{⊎-elim}
-use mathlib.Core.Path.{_≡_, refl, sym, _∙_, ap}
+use mathlib.Core.Path.{_≡_, _∙_}
 use borrow.Author.Needs.{needs}
 use Rattle.sets.proofs.equal_pairs.Statement.{statement}
 use Rattle.sets.proofs.equal_pairs.Tie as tie

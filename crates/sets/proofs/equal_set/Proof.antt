@@ -1,7 +1,6 @@
 -- `sets::equal_set` meets its contract: either where a leaf is free, else by pairs.
 use Rattle.sets.proofs.Laws.{free-either, both-three}
 use native.Mathlib.Omega.{arith}
-use mathlib.Core.Path.{_≡_, refl, sym, _∙_, ap}
 use borrow.Author.Needs.{needs}
 use Rattle.sets.proofs.equal_set.Statement.{statement}
 use Rattle.sets.proofs.equal_set.Tie as tie

@@ -1,8 +1,8 @@
 -- `sets::equality` meets its contract: by the op.
 use Rattle.meaning.specs.Sets.{notSet}
 use native.Mathlib.Omega.{arith}
-use borrow.Author.Tests.{eqb-true, ne-eqb, le-leb, lt-leb, eq-eqb}
-use mathlib.Core.Path.{_≡_, refl, sym, _∙_, ap}
+use borrow.Author.Tests.{ne-eqb}
+use mathlib.Core.Path.{_∙_, ap}
 use borrow.Author.Needs.{needs}
 use Rattle.sets.proofs.equality.Statement.{statement}
 use Rattle.sets.proofs.equality.Tie as tie

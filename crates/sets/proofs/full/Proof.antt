@@ -1,8 +1,6 @@
 -- `sets::full` meets its contract: number by number.
 use Rattle.meaning.specs.Sets.{full}
-use borrow.Author.Tests.{eqb-true, ne-eqb, le-leb, lt-leb, eq-eqb}
-use mathlib.Core.Path.{_≡_, refl, sym, _∙_, ap}
-use borrow.Author.Needs.{needs}
+use borrow.Author.Tests.{ne-eqb}
 use Rattle.sets.proofs.full.Statement.{statement}
 use Rattle.sets.proofs.full.Tie as tie
 use Rattle.sets.proofs.full.Reads as reads

@@ -1,6 +1,6 @@
 -- `sets::given` meets its contract: the smaller, of each pair of selector and condition.
 use Rattle.meaning.specs.Sets.{givenSet}
-use mathlib.Core.Path.{_≡_, refl, sym, _∙_, ap}
+use mathlib.Core.Path.{_∙_}
 use borrow.Author.Needs.{needs}
 use Rattle.sets.proofs.given.Statement.{statement}
 use Rattle.sets.proofs.given.Tie as tie

@@ -1,5 +1,5 @@
 -- `sets::gives` meets its contract: the value counts where the condition has m or y.
-use mathlib.Core.Path.{_≡_, refl, sym, _∙_, ap}
+use mathlib.Core.Path.{_∙_}
 use borrow.Author.Needs.{needs}
 use Rattle.sets.proofs.gives.Statement.{statement}
 use Rattle.sets.proofs.gives.Tie as tie

@@ -1,8 +1,6 @@
 -- `sets::has` meets its contract: value by value.
 use Rattle.meaning.specs.Sets.{has}
-use borrow.Author.Tests.{eqb-true, ne-eqb, le-leb, lt-leb, eq-eqb}
-use mathlib.Core.Path.{_≡_, refl, sym, _∙_, ap}
-use borrow.Author.Needs.{needs}
+use borrow.Author.Tests.{ne-eqb}
 use Rattle.sets.proofs.has.Statement.{statement}
 use Rattle.sets.proofs.has.Tie as tie
 use Rattle.sets.proofs.has.Reads as reads

@@ -1,6 +1,5 @@
 -- `sets::is_free` meets its contract: both tests are those of the definition.
 use Rattle.meaning.specs.Sets.{isFree}
-use mathlib.Core.Path.{_≡_, refl, sym, _∙_, ap}
 use borrow.Author.Needs.{needs}
 use Rattle.sets.proofs.is_free.Statement.{statement}
 use Rattle.sets.proofs.is_free.Tie as tie

@@ -1,6 +1,6 @@
 -- `sets::join` meets its contract: each value that either has.
 use Rattle.meaning.specs.Sets.{join}
-use mathlib.Core.Path.{_≡_, refl, sym, _∙_, ap}
+use mathlib.Core.Path.{_∙_}
 use borrow.Author.Needs.{needs}
 use Rattle.sets.proofs.join.Statement.{statement}
 use Rattle.sets.proofs.join.Tie as tie

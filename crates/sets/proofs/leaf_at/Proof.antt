@@ -1,6 +1,5 @@
 -- `sets::leaf_at` meets its contract: one of the three values is spelled by its letter, a text or a number as it stands.
 use Rattle.sets.proofs.Laws.{at-three, at-other}
-use mathlib.Core.Path.{_≡_, refl, sym, _∙_, ap}
 use borrow.Author.Needs.{needs}
 use Rattle.sets.proofs.leaf_at.Statement.{statement}
 use Rattle.sets.proofs.leaf_at.Tie as tie

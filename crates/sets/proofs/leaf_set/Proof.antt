@@ -1,6 +1,5 @@
 -- `sets::leaf_set` meets its contract: op by op.
 use Rattle.sets.proofs.Laws.{set-constant, set-symbol, set-other}
-use mathlib.Core.Path.{_≡_, refl, sym, _∙_, ap}
 use borrow.Author.Needs.{needs}
 use Rattle.sets.proofs.leaf_set.Statement.{statement}
 use Rattle.sets.proofs.leaf_set.Tie as tie

@@ -1,6 +1,5 @@
 -- `sets::least` meets its contract: the first value found is it.
 use Rattle.meaning.specs.Sets.{least}
-use mathlib.Core.Path.{_≡_, refl, sym, _∙_, ap}
 use borrow.Author.Needs.{needs}
 use Rattle.sets.proofs.least.Statement.{statement}
 use Rattle.sets.proofs.least.Tie as tie

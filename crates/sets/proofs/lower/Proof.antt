@@ -1,6 +1,6 @@
 -- `sets::lower` meets its contract: it folds the selects in order.
 use native.Mathlib.Omega.{arith}
-use mathlib.Core.Path.{_≡_, refl, sym, _∙_, ap}
+use mathlib.Core.Path.{_≡_, refl, sym, _∙_}
 use Rattle.sets.specs.Work.{Known}
 use Rattle.meaning.specs.Sets.{lowerSetStep, lowerSet, nodeSets}
 use Prim.Native.Nat.{_≤_, _-_}

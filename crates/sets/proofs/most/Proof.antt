@@ -1,6 +1,5 @@
 -- `sets::most` meets its contract: the first value found is it.
 use Rattle.meaning.specs.Sets.{most}
-use mathlib.Core.Path.{_≡_, refl, sym, _∙_, ap}
 use borrow.Author.Needs.{needs}
 use Rattle.sets.proofs.most.Statement.{statement}
 use Rattle.sets.proofs.most.Tie as tie

@@ -1,6 +1,5 @@
 -- `sets::node` meets its contract: what is kept is the set itself, and all nodes are the first of them.
 use Rattle.sets.proofs.Nodes.{known-any, all-nodes}
-use mathlib.Core.Path.{_≡_, refl, sym, _∙_, ap}
 use borrow.Author.Needs.{needs}
 use Rattle.sets.proofs.node.Statement.{statement}
 use Rattle.sets.proofs.node.Tie as tie

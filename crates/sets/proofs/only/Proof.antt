@@ -1,8 +1,6 @@
 -- `sets::only` meets its contract: number by number.
 use Rattle.meaning.specs.Sets.{only}
-use borrow.Author.Tests.{eqb-true, ne-eqb, le-leb, lt-leb, eq-eqb}
-use mathlib.Core.Path.{_≡_, refl, sym, _∙_, ap}
-use borrow.Author.Needs.{needs}
+use borrow.Author.Tests.{ne-eqb}
 use Rattle.sets.proofs.only.Statement.{statement}
 use Rattle.sets.proofs.only.Tie as tie
 use Rattle.sets.proofs.only.Reads as reads

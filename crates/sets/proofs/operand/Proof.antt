@@ -1,7 +1,5 @@
 -- `sets::operand` meets its contract: by the op.
-use borrow.Author.Tests.{eqb-true, ne-eqb, le-leb, lt-leb, eq-eqb}
-use mathlib.Core.Path.{_≡_, refl, sym, _∙_, ap}
-use borrow.Author.Needs.{needs}
+use borrow.Author.Tests.{ne-eqb, eq-eqb}
 use Rattle.sets.proofs.operand.Statement.{statement}
 use Rattle.sets.proofs.operand.Tie as tie
 use Rattle.sets.proofs.operand.Reads as reads

@@ -1,6 +1,5 @@
 -- `sets::opposite` meets its contract: not reads its first operand alone.
 use Rattle.meaning.specs.Sets.{notSet}
-use mathlib.Core.Path.{_≡_, refl, sym, _∙_, ap}
 use borrow.Author.Needs.{needs}
 use Rattle.sets.proofs.opposite.Statement.{statement}
 use Rattle.sets.proofs.opposite.Tie as tie

@@ -2,10 +2,10 @@
 use Rattle.sets.specs.Work.{applied}
 use Rattle.meaning.specs.Sets.{row}
 use Rattle.sets.proofs.Laws.{cell-with, cell-skip, rows, rows-none, row-none, rows-with, rows-skip, rows-all}
-use Prim.Native.Nat.{ℕ, _≤_, _<_, _-_}
+use Prim.Native.Nat.{_≤_, _<_, _-_}
 use native.Mathlib.Omega.{arith}
 use mathlib.Core.Logic.{⊎-elim}
-use mathlib.Core.Path.{_≡_, refl, sym, _∙_, ap}
+use mathlib.Core.Path.{_≡_, _∙_}
 use borrow.Author.Needs.{needs}
 use Rattle.sets.proofs.pairs.Statement.{statement}
 use Rattle.sets.proofs.pairs.Tie as tie

@@ -1,7 +1,6 @@
 -- `sets::set_of` meets its contract: three bits added up.
 use Rattle.meaning.specs.Sets.{setOf}
 use native.Mathlib.Omega.{arith}
-use mathlib.Core.Path.{_≡_, refl, sym, _∙_, ap}
 use borrow.Author.Needs.{needs}
 use Rattle.sets.proofs.set_of.Statement.{statement}
 use Rattle.sets.proofs.set_of.Tie as tie

@@ -1,6 +1,6 @@
 -- `sets::with` meets its contract: each value is in it that was, or is the one added.
 use Rattle.meaning.specs.Sets.{withOne}
-use mathlib.Core.Path.{_≡_, refl, sym, _∙_, ap}
+use mathlib.Core.Path.{_∙_}
 use borrow.Author.Needs.{needs}
 use Rattle.sets.proofs.with.Statement.{statement}
 use Rattle.sets.proofs.with.Tie as tie
