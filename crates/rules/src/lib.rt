@@ -2,11 +2,9 @@
 //
 // `check` is the table check: any bytes in, one outcome out, and the node work afterwards as document 01 owes it.
 ghost use mathlib.Core.Path.{_≡_};
-ghost use Prim.Native.Nat.{ℕ, _<_, _≤_};
-ghost use lib.ListN.{length};
 ghost use Rattle.meaning.specs.Base.{firstBelow};
 ghost use Rattle.meaning.specs.Book.{symbols as symbolsOf, choices as choicesOf};
-ghost use Rattle.meaning.specs.Rules.{test10, symbolFault, choiceFault, test18, rulesFault, unmetIn};
+ghost use Rattle.meaning.specs.Rules.{test10, choiceFault, test18, rulesFault};
 ghost use Rattle.rules.specs.Checked.{Checked};
 use meaning::Outcome;
 
@@ -22,13 +20,6 @@ fn types_fault(m: &[u8], t: &[u8]) -> Outcome
         }
     }
     Outcome::Clean
-}
-
-// 11 to 14, symbol by symbol.
-fn symbols_fault(m: &[u8], t: &[u8], vs: &[u8]) -> Outcome
-    ensures { λ r. ⌜ r ≡ firstBelow (symbolFault (now (m .entry)) (now (t .entry)) (now (vs .entry))) (symbolsOf (now (m .entry))) ⌝ }
-{
-    blocks::fault(m, t, vs)
 }
 
 // 15 to 17, choice by choice.
@@ -67,7 +58,7 @@ pub fn fault(m: &[u8], t: &[u8], vs: &[u8]) -> Outcome
     if let Outcome::Fault(_, _, _) = types {
         return types;
     }
-    let symbols = symbols_fault(m, t, vs);
+    let symbols = blocks::fault(m, t, vs);
     if let Outcome::Fault(_, _, _) = symbols {
         return symbols;
     }

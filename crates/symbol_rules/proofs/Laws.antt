@@ -1,8 +1,8 @@
 -- Leaves compared by kind and content, and rules 13 and 14 over what was read. Assumes nothing.
 use mathlib.Core.Path.{_≡_, refl, sym, _∙_, ap, ap₂}
-use mathlib.Core.Bool.{Bool, true, false, _&&_, not}
+use mathlib.Core.Bool.{Bool, _&&_, not}
 use mathlib.Core.List.{List}
-use Prim.Native.Nat.{ℕ, _≤_, _<_}
+use Prim.Native.Nat.{ℕ}
 use lib.Dec.{eqb, leb, ltb}
 use lib.IntN.{ℤ}
 use lib.Signed.{leZ}
@@ -15,7 +15,7 @@ use Rattle.meaning.specs.declared.Outcome.the-variants.{Clean, Fault}
 use Rattle.meaning.specs.declared.Value.{Value}
 use Rattle.meaning.specs.Base.{when}
 use Rattle.meaning.specs.Book.{rangeSymbol, lowOf, highOf, rangeCondition}
-use Rattle.meaning.specs.Table.{Content, readOf, contentOf}
+use Rattle.meaning.specs.Table.{readOf, contentOf}
 use Rattle.meaning.specs.Values.{val, leafOf, promptValue}
 use Rattle.meaning.specs.Rules.{sameContent, broken13Content, intIs, hexIs, within, test14}
 use Rattle.spell.specs.declared.Leaf.{Leaf}

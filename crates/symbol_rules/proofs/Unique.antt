@@ -9,8 +9,6 @@ use Rattle.symbol_rules.proofs.other_by.Kinds as other-by-kinds
 use Rattle.symbol_rules.proofs.other_by.Reads as other-by-reads
 use Rattle.symbol_rules.proofs.ranges_fault.Kinds as ranges-fault-kinds
 use Rattle.symbol_rules.proofs.ranges_fault.Reads as ranges-fault-reads
-use Rattle.symbol_rules.proofs.symbol_fault.Kinds as symbol-fault-kinds
-use Rattle.symbol_rules.proofs.symbol_fault.Reads as symbol-fault-reads
 
 pub type-fault-once : Once 2 type-fault-kinds.ps type-fault-kinds.r type-fault-reads.Post
 type-fault-once κs a x y s t p q = p ∙ sym q
@@ -23,6 +21,3 @@ other-by-once κs a x y s t p q = p ∙ sym q
 
 pub ranges-fault-once : Once 3 ranges-fault-kinds.ps ranges-fault-kinds.r ranges-fault-reads.Post
 ranges-fault-once κs a x y s t p q = p ∙ sym q
-
-pub symbol-fault-once : Once 3 symbol-fault-kinds.ps symbol-fault-kinds.r symbol-fault-reads.Post
-symbol-fault-once κs a x y s t p q = p ∙ sym q

@@ -1,16 +1,16 @@
 // Rules 10 to 14 at one symbol.
 //
-// Total over any bytes: `vs` has the nodes' values. A symbol's number is below 2^16.
+// Total over any bytes: `vs` has the nodes' values, and the caller knows a symbol's Default and Lower. A symbol's number is below 2^16.
 ghost use mathlib.Core.Path.{_≡_};
-ghost use Prim.Native.Nat.{ℕ, _<_, _^_};
+ghost use Prim.Native.Nat.{ℕ, _<_};
 ghost use lib.Dec.{leb};
 ghost use lib.Signed.{leZ};
 ghost use Rattle.meaning.specs.declared.Outcome.the-variants.{Fault};
-ghost use Rattle.meaning.specs.Base.{pick, when, firstBelow};
+ghost use Rattle.meaning.specs.Base.{when, firstBelow};
 ghost use Rattle.meaning.specs.Table.{contentIn, contentOf, valueOf, aThree, aText, anInt, aHex};
 ghost use Rattle.meaning.specs.Values.{promptValue};
-ghost use Rattle.meaning.specs.Book.{ranges as rangesOf, threeType};
-ghost use Rattle.meaning.specs.Rules.{typeFits, sameContent, broken13Content, threeTests, test10, threeFault, otherFault, test14, symbolFault};
+ghost use Rattle.meaning.specs.Book.{ranges as rangesOf};
+ghost use Rattle.meaning.specs.Rules.{typeFits, sameContent, broken13Content, threeTests, test10, test14};
 ghost use Rattle.spell.specs.Leaves.{leafContent};
 ghost use Rattle.symbol_rules.specs.Leaves.{leafInt, leafHex, leafWithin};
 use meaning::Outcome;
@@ -64,16 +64,6 @@ pub fn three_by(m: &[u8], t: &[u8], vs: &[u8], s: usize, d: Tri, low: Tri) -> Ou
     let v = entries::three(t, s);
     let p = values::at(vs, fields::prompt_of(m, s));
     three_tests(s, v, p, d, low)
-}
-
-// 11, 12 or 13 at s, a boolean or tristate symbol.
-fn three_fault(m: &[u8], t: &[u8], vs: &[u8], s: usize) -> Outcome
-    requires { ⌜ s < 65536 ⌝ }
-    ensures { λ r. ⌜ r ≡ threeFault (now (m .entry)) (now (t .entry)) (now (vs .entry)) s ⌝ }
-{
-    let d = values::default_three(m, vs, s);
-    let low = values::lower(m, t, vs, s);
-    three_by(m, t, vs, s, d, low)
 }
 
 // Whether leaf b is the value v.
@@ -150,14 +140,6 @@ pub fn other_by(m: &[u8], t: &[u8], vs: &[u8], s: usize, d: Leaf) -> Outcome
     let p = values::at(vs, fields::prompt_of(m, s));
     let bad = (p.v == 0) & !same_content(m, t, v, d);
     raw::fault_if(bad, 13, s, 65535)
-}
-
-// 13 at s, a string, int or hex symbol.
-fn other_fault(m: &[u8], t: &[u8], vs: &[u8], s: usize) -> Outcome
-    requires { ⌜ s < 65536 ⌝ }
-    ensures { λ r. ⌜ r ≡ otherFault (now (m .entry)) (now (t .entry)) (now (vs .entry)) s ⌝ }
-{
-    other_by(m, t, vs, s, values::default_leaf(m, t, vs, s))
 }
 
 // Whether leaf low is an int of at most z.
@@ -254,27 +236,4 @@ pub fn ranges_fault(m: &[u8], t: &[u8], vs: &[u8], s: usize) -> Outcome
         }
     }
     Outcome::Clean
-}
-
-// 11, 12 and 13 of s by its type.
-fn own_fault(m: &[u8], t: &[u8], vs: &[u8], s: usize) -> Outcome
-    requires { ⌜ s < 65536 ⌝ }
-    ensures { λ r. ⌜ r ≡ pick (threeType (now (m .entry)) s) (threeFault (now (m .entry)) (now (t .entry)) (now (vs .entry)) s) (otherFault (now (m .entry)) (now (t .entry)) (now (vs .entry)) s) ⌝ }
-{
-    if fields::is_three(m, s) {
-        return three_fault(m, t, vs, s);
-    }
-    other_fault(m, t, vs, s)
-}
-
-// 11 to 14 at s.
-pub fn symbol_fault(m: &[u8], t: &[u8], vs: &[u8], s: usize) -> Outcome
-    requires { ⌜ s < 65536 ⌝ }
-    ensures { λ r. ⌜ r ≡ symbolFault (now (m .entry)) (now (t .entry)) (now (vs .entry)) s ⌝ }
-{
-    let own = own_fault(m, t, vs, s);
-    if let Outcome::Fault(_, _, _) = own {
-        return own;
-    }
-    ranges_fault(m, t, vs, s)
 }

@@ -1,23 +1,21 @@
--- Leaves and nodes op by op, and a turn of the loops over selects and defaults. Assumes nothing.
-use mathlib.Core.Path.{_≡_, refl, sym, _∙_, ap}
-use mathlib.Core.Bool.{Bool, true, false, _&&_}
-use mathlib.Core.List.{List, []}
-use Prim.Native.Nat.{ℕ, zero, suc, _+_, _-_, _≤_, _<_}
-use native.Mathlib.Omega.{arith}
-use lib.Dec.{eqb, leb, ltb}
-use lib.IntN.{ℤ, pos, negsuc}
+-- Leaves and nodes op by op. Assumes nothing.
+use mathlib.Core.Path.{_≡_, refl, _∙_, ap}
+use mathlib.Core.Bool.{Bool, true, false}
+use mathlib.Core.List.{List}
+use Prim.Native.Nat.{ℕ, _+_, _≤_, _<_}
+use lib.Dec.{eqb}
+use lib.IntN.{ℤ}
 use mir.Syntax.{w32}
-use mir.Val.{toZ, ofZ, SFits}
+use mir.Val.{toZ, ofZ}
 use mir.ValLaws.{toZ-ofZ}
-use borrow.Author.Tests.{eqb-true, ne-eqb, le-leb, lt-leb, eq-eqb}
+use borrow.Author.Tests.{ne-eqb, le-leb, lt-leb}
 use Rattle.tri.specs.Three.{triOf, notOf, andOf, orOf}
 use Rattle.meaning.specs.declared.Value.{Value}
 use Rattle.meaning.specs.declared.Value.the-variants.{Three, Text, Int, Hex}
 use Rattle.meaning.specs.Base.{pick, part, sameText}
-use Rattle.meaning.specs.Book.{opOf, leftOf, rightOf, textStart, targetOf, defaults, defaultSymbol}
-use Rattle.meaning.specs.Table.{Content, aThree, aText, anInt, aHex, readOf, signedOf, contentIn, contentOf, threeIn, valueOf}
-use Rattle.meaning.specs.Spell.{spelled}
-use Rattle.meaning.specs.Values.{val, numberOf, leafOf, leafValue, yesNo, equalValue, nodeValue, lowerStep, defaultStep}
+use Rattle.meaning.specs.Book.{opOf, leftOf, rightOf, textStart}
+use Rattle.meaning.specs.Table.{aThree, aText, anInt, aHex, readOf, signedOf, contentIn, contentOf, threeIn, valueOf}
+use Rattle.meaning.specs.Values.{val, numberOf, leafOf, leafValue, yesNo, equalValue, nodeValue}
 use Rattle.entries.proofs.Laws.{signed-fits}
 use Rattle.spell.specs.declared.Leaf.{Leaf}
 use Rattle.spell.specs.Leaves.{leafContent, leafOfValue, spelledLeaf}
@@ -111,32 +109,3 @@ module _ (m t vs : List ℕ) (i : ℕ) (x : ℕ) {op left right : ℕ} (eo : op 
   pub node-none : 4 < op → (op ≡ 5 → ⊥) → (op ≡ 6 → ⊥) → (op ≡ 7 → ⊥) → (op ≡ 8 → ⊥) → (op ≡ 9 → ⊥) → x ≡ 0 → x ≡ nodeValue m t vs i
   unfolding nodeValue
   node-none l a b c d e z = rw (← eo, lt-leb op 4 l, ne-eqb op 5 a, ne-eqb op 6 b, ne-eqb op 7 c, ne-eqb op 8 d, ne-eqb op 9 e) z
-
--- LOWER: a select on another symbol, and one on s
-module _ (m : List ℕ) (gives : ℕ → ℕ) (s k low : ℕ) {target : ℕ} (et : target ≡ targetOf m k) where
-  pub lower-kept : (target ≡ s → ⊥) → low ≡ lowerStep m gives s k low
-  unfolding lowerStep
-  lower-kept h = rw (← et, ne-eqb target s h)
-
-  pub lower-raised : {x g : ℕ} → target ≡ s → g ≡ gives k → x ≡ orOf low g → x ≡ lowerStep m gives s k low
-  unfolding lowerStep
-  lower-raised h eg ex = rw (← et, h, eq-eqb s s refl, ← eg) ex
-
--- DEFAULT: one that applies, and one that does not
-both-picks : {A : Type 0} (a b : Bool) (x y : A) → pick (a && b) x y ≡ pick a (pick b x y) y
-both-picks true b x y = refl
-both-picks false b x y = refl
-
-module _ {A : Type 0} (m : List ℕ) (cond : ℕ → ℕ) (has : ℕ → A) (s j : ℕ) (later : A) {n : ℕ} {q : Bool} (en : n ≡ defaults m)
-    (eq : q ≡ (eqb (defaultSymbol m (n - 1 - j)) s && ltb 0 (cond (n - 1 - j)))) where
-  step-is : defaultStep m cond has s j later ≡ pick q (has (n - 1 - j)) later
-  unfolding defaultStep
-  step-is =
-      let there : defaults m - suc j ≡ n - 1 - j = omega arith in
-      rw there (sym (both-picks (eqb (defaultSymbol m (n - 1 - j)) s) (ltb 0 (cond (n - 1 - j))) (has (n - 1 - j)) later) ∙ ap (λ b. pick b (has (n - 1 - j)) later) (sym eq))
-
-  pub default-applies : q ≡ true → {x : A} → x ≡ has (n - 1 - j) → x ≡ defaultStep m cond has s j later
-  default-applies h ex = ex ∙ sym (step-is ∙ rw h)
-
-  pub default-kept : q ≡ false → later ≡ defaultStep m cond has s j later
-  default-kept h = sym (step-is ∙ rw h)

@@ -15,12 +15,6 @@ use Rattle.values.proofs.fill.Kinds as fill-kinds
 use Rattle.values.proofs.fill.Reads as fill-reads
 use Rattle.values.proofs.given.Kinds as given-kinds
 use Rattle.values.proofs.given.Reads as given-reads
-use Rattle.values.proofs.lower.Kinds as lower-kinds
-use Rattle.values.proofs.lower.Reads as lower-reads
-use Rattle.values.proofs.default_three.Kinds as default-three-kinds
-use Rattle.values.proofs.default_three.Reads as default-three-reads
-use Rattle.values.proofs.default_leaf.Kinds as default-leaf-kinds
-use Rattle.values.proofs.default_leaf.Reads as default-leaf-reads
 
 pub at-once : Once 1 at-kinds.ps at-kinds.r at-reads.Post
 at-once κs a x y s t p q = by-v p q
@@ -39,18 +33,3 @@ fill-once κs a x y s t p q = p ∙ sym q
 
 pub given-once : Once 3 given-kinds.ps given-kinds.r given-reads.Post
 given-once κs a x y s t p q = by-v p q
-
-pub lower-once : Once 3 lower-kinds.ps lower-kinds.r lower-reads.Post
-lower-once κs a x y s t p q = by-v p q
-
-pub default-three-once : Once 2 default-three-kinds.ps default-three-kinds.r default-three-reads.Post
-default-three-once κs a x y s t p q = by-v p q
-
--- of what the leaf stands for: the leaf itself may be written in more than one way
-pub default-leaf-once :
-    (κs : Lfts 3) (a : Dens κs default-leaf-kinds.ps) (x y : resT default-leaf-kinds.r κs .Denot)
-    (s t : AtExit (endedOf 3 default-leaf-kinds.ps default-leaf-kinds.r) κs)
-    → default-leaf-reads.Post κs a x s
-    → default-leaf-reads.Post κs a y t
-    → leafContent (now (a .0)) (now (a .1 .0)) x ≡ leafContent (now (a .0)) (now (a .1 .0)) y
-default-leaf-once κs a x y s t p q = p ∙ sym q

@@ -1,18 +1,14 @@
-// What the nodes, the selects and the defaults of a book come to in a table.
+// What the nodes and the selects of a book come to in a table.
 //
-// Total over any bytes. `fill` writes each node's value into the node work; the others read those values: `lower` and
-// `default_three` have Lower and Default of a symbol, `default_leaf` the Default of a string, int or hex.
+// Total over any bytes. `fill` writes each node's value into the node work, and `at` reads it there; `given` has what a select
+// gives its target by those values, `leaf` what a leaf stands for.
 ghost use mathlib.Core.Path.{_≡_};
-ghost use mathlib.Core.List.{_++_, []};
+ghost use mathlib.Core.List.{_++_};
 ghost use Prim.Native.Nat.{ℕ, _<_, _≤_, _^_};
 ghost use lib.ListN.{length, drop};
-ghost use mathlib.Core.Bool.{_&&_};
-ghost use lib.Dec.{eqb, ltb};
 ghost use Rattle.tri.specs.Three.{triOf};
-ghost use Rattle.meaning.specs.Base.{fold};
-ghost use Rattle.meaning.specs.Book.{nodes as nodesOf, defaults as defaultsOf, defaultSymbol, defaultValue};
+ghost use Rattle.meaning.specs.Book.{nodes as nodesOf};
 ghost use Rattle.meaning.specs.Values.{val, numberOf, leafOf, leafValue, equalValue, nodeValue, nodeValues, given as givenOf};
-ghost use Rattle.meaning.specs.Values.{lowerStep, lowerOf, conditionValue, defaultStep, defaultOf, defaultContent};
 ghost use Rattle.spell.specs.Leaves.{leafContent};
 use spell::Leaf;
 use tri::Tri;
@@ -123,85 +119,4 @@ pub fn given(m: &[u8], t: &[u8], vs: &[u8], k: usize) -> Tri
     ensures { λ r. ⌜ r .v ≡ givenOf (now (m .entry)) (now (t .entry)) (now (vs .entry)) k ⌝ }
 {
     entries::three(t, fields::selector_of(m, k)).and(at(vs, fields::condition_of(m, k)))
-}
-
-// Lower so far, with select k added if it is on s.
-fn raised(m: &[u8], t: &[u8], vs: &[u8], s: usize, k: usize, low: Tri) -> Tri
-    requires { ⌜ k < 2 ^ 32 ⌝ }
-    ensures { λ r. ⌜ r .v ≡ lowerStep (now (m .entry)) (givenOf (now (m .entry)) (now (t .entry)) (now (vs .entry))) s k (low .v) ⌝ }
-{
-    if fields::target_of(m, k) != s {
-        return low;
-    }
-    low.or(given(m, t, vs, k))
-}
-
-// Lower of symbol s.
-pub fn lower(m: &[u8], t: &[u8], vs: &[u8], s: usize) -> Tri
-    ensures { λ r. ⌜ r .v ≡ lowerOf (now (m .entry)) (now (t .entry)) (now (vs .entry)) s ⌝ }
-{
-    let n = fields::selects(m);
-    let mut low = Tri::N;
-    for k in 0..n {
-        low = raised(m, t, vs, s, k, low);
-    }
-    low
-}
-
-// Whether default d is on s and its condition above n.
-fn applies(m: &[u8], vs: &[u8], s: usize, d: usize) -> bool
-    requires { ⌜ d < 2 ^ 32 ⌝ }
-    ensures { λ r. ⌜ r ≡ (eqb (defaultSymbol (now (m .entry)) d) s && ltb 0 (conditionValue (now (m .entry)) (now (vs .entry)) d)) ⌝ }
-{
-    let on = fields::default_symbol(m, d) == s;
-    let condition = at(vs, fields::default_condition(m, d));
-    on & (0 < condition.v)
-}
-
-// Default so far, from the last default on, covered by the one j before the last if that applies.
-fn covered_three(m: &[u8], vs: &[u8], s: usize, j: usize, later: Tri) -> Tri
-    requires { ⌜ j < defaultsOf (now m) ⌝ }
-    ensures { λ r. ⌜ r .v ≡ defaultStep (now (m .entry)) (conditionValue (now (m .entry)) (now (vs .entry))) (λ d. val (now (vs .entry)) (defaultValue (now (m .entry)) d)) s j (later .v) ⌝ }
-{
-    let d = fields::defaults(m) - 1 - j;
-    if applies(m, vs, s, d) {
-        return at(vs, fields::default_value(m, d));
-    }
-    later
-}
-
-// Default of a boolean or tristate symbol s.
-pub fn default_three(m: &[u8], vs: &[u8], s: usize) -> Tri
-    ensures { λ r. ⌜ r .v ≡ defaultOf (now (m .entry)) (now (vs .entry)) s ⌝ }
-{
-    let n = fields::defaults(m);
-    let mut later = Tri::N;
-    for j in 0..n {
-        later = covered_three(m, vs, s, j, later);
-    }
-    later
-}
-
-// Default so far of a string, int or hex.
-fn covered_leaf(m: &[u8], t: &[u8], vs: &[u8], s: usize, j: usize, later: Leaf) -> Leaf
-    requires { ⌜ j < defaultsOf (now m) ⌝ }
-    ensures { λ r. ⌜ leafContent (now (m .entry)) (now (t .entry)) r ≡ defaultStep (now (m .entry)) (conditionValue (now (m .entry)) (now (vs .entry))) (λ d. leafOf (now (m .entry)) (now (t .entry)) (defaultValue (now (m .entry)) d)) s j (leafContent (now (m .entry)) (now (t .entry)) later) ⌝ }
-{
-    let d = fields::defaults(m) - 1 - j;
-    if applies(m, vs, s, d) {
-        return leaf(m, t, fields::default_value(m, d));
-    }
-    later
-}
-
-// Default of a string, int or hex symbol s.
-pub fn default_leaf(m: &[u8], t: &[u8], vs: &[u8], s: usize) -> Leaf
-    ensures { λ r. ⌜ leafContent (now (m .entry)) (now (t .entry)) r ≡ defaultContent (now (m .entry)) (now (t .entry)) (now (vs .entry)) s ⌝ }
-{
-    let n = fields::defaults(m);
-    let mut later = Leaf::Note(0, 0);
-    for j in 0..n {
-        later = covered_leaf(m, t, vs, s, j, later);
-    }
-    later
 }

@@ -8,7 +8,6 @@ use Rattle.rules.proofs.fault.Reads as reads
 use Rattle.rules.proofs.fault.Lts as lts
 use Rattle.rules.proofs.choices_fault.Reads as choices-fault-reads
 use Rattle.rules.proofs.modules_fault.Reads as modules-fault-reads
-use Rattle.rules.proofs.symbols_fault.Reads as symbols-fault-reads
 use Rattle.rules.proofs.types_fault.Reads as types-fault-reads
 
 types-fault-requires : tie.Need-types-fault-requires
@@ -24,15 +23,15 @@ returns c = first-fault _ (c .before .before .types-fault .ensures) (c .enum-tol
 enum-told-2 : tie.Need-enum-told-2
 enum-told-2 c = search needs
 
-symbols-fault-requires : tie.Need-symbols-fault-requires
-symbols-fault-requires c κs = search needs
+fault-requires : tie.Need-fault-requires
+fault-requires c κs = search needs
 
 enum-told-3 : tie.Need-enum-told-3
 enum-told-3 c = search needs
 
 returns-2 : tie.Need-returns-2
 unfolding rulesFault
-returns-2 c = first-clean (c .before .before .before .before .before .types-fault .ensures) (c .before .before .before .enum-told2 .given .1) (first-fault _ (c .before .before .symbols-fault .ensures) (c .enum-told3 .given .1))
+returns-2 c = first-clean (c .before .before .before .before .before .types-fault .ensures) (c .before .before .before .enum-told2 .given .1) (first-fault _ (c .before .before .fault .ensures) (c .enum-told3 .given .1))
 
 enum-told-4 : tie.Need-enum-told-4
 enum-told-4 c = search needs
@@ -45,7 +44,7 @@ enum-told-5 c = search needs
 
 returns-3 : tie.Need-returns-3
 unfolding rulesFault
-returns-3 c = first-clean (c .before .before .before .before .before .before .before .before .types-fault .ensures) (c .before .before .before .before .before .before .enum-told2 .given .1) (first-clean (c .before .before .before .before .before .symbols-fault .ensures) (c .before .before .before .enum-told4 .given .1) (first-fault _ (c .before .before .choices-fault .ensures) (c .enum-told5 .given .1)))
+returns-3 c = first-clean (c .before .before .before .before .before .before .before .before .types-fault .ensures) (c .before .before .before .before .before .before .enum-told2 .given .1) (first-clean (c .before .before .before .before .before .fault .ensures) (c .before .before .before .enum-told4 .given .1) (first-fault _ (c .before .before .choices-fault .ensures) (c .enum-told5 .given .1)))
 
 enum-told-6 : tie.Need-enum-told-6
 enum-told-6 c = search needs
@@ -55,7 +54,7 @@ modules-fault-requires c κs = search needs
 
 returns-4 : tie.Need-returns-4
 unfolding rulesFault
-returns-4 c = first-clean (c .before .before .before .before .before .before .before .before .before .types-fault .ensures) (c .before .before .before .before .before .before .before .enum-told2 .given .1) (first-clean (c .before .before .before .before .before .before .symbols-fault .ensures) (c .before .before .before .before .enum-told4 .given .1) (first-clean (c .before .before .before .choices-fault .ensures) (c .before .enum-told6 .given .1) (c .modules-fault .ensures)))
+returns-4 c = first-clean (c .before .before .before .before .before .before .before .before .before .types-fault .ensures) (c .before .before .before .before .before .before .before .enum-told2 .given .1) (first-clean (c .before .before .before .before .before .before .fault .ensures) (c .before .before .before .before .enum-told4 .given .1) (first-clean (c .before .before .before .choices-fault .ensures) (c .before .enum-told6 .given .1) (c .modules-fault .ensures)))
 
 pub fault-spec : {M : Type 1} → statement M
 fault-spec =
@@ -65,7 +64,7 @@ fault-spec =
     enum-told
     returns
     enum-told-2
-    symbols-fault-requires
+    fault-requires
     enum-told-3
     returns-2
     enum-told-4
