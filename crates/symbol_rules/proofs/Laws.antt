@@ -1,41 +1,141 @@
 -- Leaves compared by kind and content, and rules 13 and 14 over what was read. Assumes nothing.
-use mathlib.Core.Path.{_≡_, refl, sym, _∙_, ap, ap₂}
-use mathlib.Core.Bool.{Bool, _&&_, not}
-use mathlib.Core.List.{List}
+use mathlib.Core.Path.{_≡_, refl, _∙_, ap, ap₂}
+use mathlib.Core.Bool.{Bool, true, false, _&&_, not}
+use mathlib.Core.List.{List, _∷_, []}
 use Prim.Native.Nat.{ℕ}
+use native.Mathlib.Omega.{arith}
 use lib.Dec.{eqb, leb, ltb}
 use lib.IntN.{ℤ}
 use lib.Signed.{leZ}
 use mir.Syntax.{w32}
 use mir.Val.{toZ, ofZ, SFits}
 use mir.ValLaws.{toZ-ofZ}
-use borrow.Author.Tests.{ne-eqb, eq-eqb}
+use types.Run.{OneOf, miss}
+use denote.Enum.Declared.{tagOf}
+use borrow.Author.Tests.{ne-eqb, eq-eqb, eqb-true, eqb-false, le-leb, leb-true}
 use Rattle.meaning.specs.declared.Outcome.{Outcome}
 use Rattle.meaning.specs.declared.Outcome.the-variants.{Clean, Fault}
 use Rattle.meaning.specs.declared.Value.{Value}
 use Rattle.meaning.specs.Base.{when}
 use Rattle.meaning.specs.Book.{rangeSymbol, lowOf, highOf, rangeCondition}
-use Rattle.meaning.specs.Table.{readOf, contentOf}
+use Rattle.meaning.specs.Table.{aThree, aText, readOf, contentOf}
 use Rattle.meaning.specs.Values.{val, leafOf, promptValue}
 use Rattle.meaning.specs.Rules.{sameContent, broken13Content, intIs, hexIs, within, test14}
 use Rattle.spell.specs.declared.Leaf.{Leaf}
 use Rattle.spell.specs.declared.Leaf.the-variants.{Three, Note, Text, Int, Hex}
 use Rattle.spell.specs.Leaves.{leafContent, leafOfValue}
+use Rattle.spell.proofs.Leaf.{the-type}
 use Rattle.values.proofs.Laws.{as-leaf}
-use Rattle.symbol_rules.specs.Leaves.{leafInt, leafHex, leafWithin}
+use Rattle.symbol_rules.specs.Leaves.{leafInt, leafHex, leafOrdered, leafWithin}
 
 -- two signed numbers that fit 32 bits, compared
 pub le-int : (a b : ℤ) → SFits w32 a → SFits w32 b → leZ (toZ w32 (ofZ w32 a)) (toZ w32 (ofZ w32 b)) ≡ leZ a b
 le-int a b fa fb = ap₂ leZ (toZ-ofZ w32 a fa) (toZ-ofZ w32 b fb)
 
-pub same-int : (a b : ℤ) → SFits w32 a → SFits w32 b
-    → leZ (toZ w32 (ofZ w32 a)) (toZ w32 (ofZ w32 b)) && leZ (toZ w32 (ofZ w32 b)) (toZ w32 (ofZ w32 a)) ≡ leZ a b && leZ b a
-same-int a b fa fb = ap₂ _&&_ (le-int a b fa fb) (le-int b a fb fa)
-
 -- what stands at a symbol, as a leaf
 pub content-is : (m t : List ℕ) (s : ℕ) (l : Leaf) {w : Value} → l ≡ leafOfValue w → w ≡ readOf t s → leafContent m t l ≡ contentOf t s
 unfolding contentOf
 content-is m t s l {w} e f = rw e (rw f (as-leaf m t (readOf t s)))
+
+-- a leaf that is a text, compared with another
+pub as-text :
+    (m t : List ℕ) (a b : Leaf) {x y : List ℕ} {q : Bool} → q ≡ sameContent (aText x) (leafContent m t b) → x ≡ y → leafContent m t a ≡ aText y
+    → q ≡ sameContent (leafContent m t a) (leafContent m t b)
+as-text m t a b e f g = e ∙ rw (f, g)
+
+-- LEAVES OF OTHER KINDS than a match names: `k` has the kinds that are left
+pub not-three : (m t : List ℕ) (v : ℕ) (b : Leaf) → OneOf (1 ∷ 2 ∷ 3 ∷ 4 ∷ []) (tagOf the-type b) → false ≡ sameContent (aThree v) (leafContent m t b)
+not-three m t v (Three w) k = absurd (miss (1 ∷ 2 ∷ 3 ∷ 4 ∷ []) 0 tt k)
+not-three m t v (Note at n) k = refl
+not-three m t v (Text at n) k = refl
+not-three m t v (Int z) k = refl
+not-three m t v (Hex h) k = refl
+
+pub not-text : (m t x : List ℕ) (b : Leaf) → OneOf (0 ∷ 3 ∷ 4 ∷ []) (tagOf the-type b) → false ≡ sameContent (aText x) (leafContent m t b)
+not-text m t x (Three w) k = refl
+not-text m t x (Note at n) k = absurd (miss (0 ∷ 3 ∷ 4 ∷ []) 1 tt k)
+not-text m t x (Text at n) k = absurd (miss (0 ∷ 3 ∷ 4 ∷ []) 2 tt k)
+not-text m t x (Int z) k = refl
+not-text m t x (Hex h) k = refl
+
+pub not-int : (p : ℤ → Bool) (b : Leaf) → OneOf (0 ∷ 1 ∷ 2 ∷ 4 ∷ []) (tagOf the-type b) → false ≡ leafInt p b
+not-int p (Three w) k = refl
+not-int p (Note at n) k = refl
+not-int p (Text at n) k = refl
+not-int p (Int z) k = absurd (miss (0 ∷ 1 ∷ 2 ∷ 4 ∷ []) 3 tt k)
+not-int p (Hex h) k = refl
+
+pub not-hex : (p : ℕ → Bool) (b : Leaf) → OneOf (0 ∷ 1 ∷ 2 ∷ 3 ∷ []) (tagOf the-type b) → false ≡ leafHex p b
+not-hex p (Three w) k = refl
+not-hex p (Note at n) k = refl
+not-hex p (Text at n) k = refl
+not-hex p (Int z) k = refl
+not-hex p (Hex h) k = absurd (miss (0 ∷ 1 ∷ 2 ∷ 3 ∷ []) 4 tt k)
+
+pub not-ordered : (a b : Leaf) → OneOf (0 ∷ 1 ∷ 2 ∷ []) (tagOf the-type a) → false ≡ leafOrdered a b
+not-ordered (Three v) b k = refl
+not-ordered (Note at n) b k = refl
+not-ordered (Text at n) b k = refl
+not-ordered (Int z) b k = absurd (miss (0 ∷ 1 ∷ 2 ∷ []) 3 tt k)
+not-ordered (Hex h) b k = absurd (miss (0 ∷ 1 ∷ 2 ∷ []) 4 tt k)
+
+-- an int, handed on as 32 bits
+pub int-ordered : (z : ℤ) (b : Leaf) → SFits w32 z → leafInt (λ w. leZ (toZ w32 (ofZ w32 z)) w) b ≡ leafOrdered (Int z) b
+int-ordered z b f = ap (λ x. leafInt (λ w. leZ x w) b) (toZ-ofZ w32 z f)
+
+-- THE SAME: each at most the other
+both-hex : (g h : ℕ) → leb g h && leb h g ≡ eqb g h
+both-hex g h = by (eqb g h) refl
+  where
+    by : (q : Bool) → eqb g h ≡ q → leb g h && leb h g ≡ q
+    by true e = let z = eqb-true g h e in rw (le-leb g h (omega arith), le-leb h g (omega arith))
+    by false e = apart (leb g h) (leb h g) refl refl
+      where
+        apart : (a b : Bool) → leb g h ≡ a → leb h g ≡ b → a && b ≡ false
+        apart true true p q = absurd (eqb-false g h e (omega (arith, leb-true g h p, leb-true h g q)))
+        apart true false p q = refl
+        apart false b p q = refl
+
+pub same-ordered : (m t : List ℕ) (a b : Leaf) → OneOf (3 ∷ 4 ∷ []) (tagOf the-type a) → leafOrdered a b && leafOrdered b a ≡ sameContent (leafContent m t a) (leafContent m t b)
+same-ordered m t (Three v) b k = absurd (miss (3 ∷ 4 ∷ []) 0 tt k)
+same-ordered m t (Note at n) b k = absurd (miss (3 ∷ 4 ∷ []) 1 tt k)
+same-ordered m t (Text at n) b k = absurd (miss (3 ∷ 4 ∷ []) 2 tt k)
+same-ordered m t (Int z) (Three w) k = refl
+same-ordered m t (Int z) (Note at n) k = refl
+same-ordered m t (Int z) (Text at n) k = refl
+same-ordered m t (Int z) (Int w) k = refl
+same-ordered m t (Int z) (Hex h) k = refl
+same-ordered m t (Hex g) (Three w) k = refl
+same-ordered m t (Hex g) (Note at n) k = refl
+same-ordered m t (Hex g) (Text at n) k = refl
+same-ordered m t (Hex g) (Int z) k = refl
+same-ordered m t (Hex g) (Hex h) k = both-hex g h
+
+-- WITHIN: from low, and to high
+from-int : (low : Leaf) (z : ℤ) → leafOrdered low (Int z) ≡ leafInt (λ a. leZ a z) low
+from-int (Three v) z = refl
+from-int (Note at n) z = refl
+from-int (Text at n) z = refl
+from-int (Int a) z = refl
+from-int (Hex g) z = refl
+
+from-hex : (low : Leaf) (h : ℕ) → leafOrdered low (Hex h) ≡ leafHex (λ a. leb a h) low
+from-hex (Three v) h = refl
+from-hex (Note at n) h = refl
+from-hex (Text at n) h = refl
+from-hex (Int a) h = refl
+from-hex (Hex g) h = refl
+
+and-false : (a : Bool) → a && false ≡ false
+and-false true = refl
+and-false false = refl
+
+pub within-ordered : (low high v : Leaf) → leafOrdered low v && leafOrdered v high ≡ leafWithin low high v
+within-ordered low high (Three v) = and-false (leafOrdered low (Three v))
+within-ordered low high (Note at n) = and-false (leafOrdered low (Note at n))
+within-ordered low high (Text at n) = and-false (leafOrdered low (Text at n))
+within-ordered low high (Int z) = ap (λ q. q && leafOrdered (Int z) high) (from-int low z)
+within-ordered low high (Hex h) = ap (λ q. q && leafOrdered (Hex h) high) (from-hex low h)
 
 -- a range, of leaves and of what they stand for
 int-leaf : (m t : List ℕ) (p : ℤ → Bool) (l : Leaf) → leafInt p l ≡ intIs p (leafContent m t l)
@@ -79,13 +179,3 @@ pub range-is :
 unfolding test14
 range-is m t vs s r v low high {x = x} ex xs e ec eq ev el eh =
     e ∙ rw (← ex, xs, eq-eqb s s refl, ec, eq, within-leaf m t low high v, ev, el, eh)
-
--- a value that is an int, or a hex, against both bounds
-pub within-int :
-    (low high v : Leaf) (z : ℤ) {p q : Bool} → SFits w32 z → v ≡ Int z → p ≡ leafInt (λ a. leZ a (toZ w32 (ofZ w32 z))) low
-    → q ≡ leafInt (λ b. leZ (toZ w32 (ofZ w32 z)) b) high → p && q ≡ leafWithin low high v
-within-int low high v z f e ep eq =
-    ap₂ _&&_ ep eq ∙ ap (λ x. leafInt (λ a. leZ a x) low && leafInt (λ b. leZ x b) high) (toZ-ofZ w32 z f) ∙ sym (ap (leafWithin low high) e)
-
-pub within-hex : (low high v : Leaf) (h : ℕ) {p q : Bool} → v ≡ Hex h → p ≡ leafHex (λ a. leb a h) low → q ≡ leafHex (λ b. leb h b) high → p && q ≡ leafWithin low high v
-within-hex low high v h e ep eq = ap₂ _&&_ ep eq ∙ sym (ap (leafWithin low high) e)

@@ -22,6 +22,15 @@ leafHex p (Text at n) = false
 leafHex p (Int z) = false
 leafHex p (Hex h) = p h
 
+-- a is at most b: two ints, or two hexes
+abbrev pub leafOrdered : Leaf → Leaf → Bool
+leafOrdered (Three v) b = false
+leafOrdered (Note at n) b = false
+leafOrdered (Text at n) b = false
+leafOrdered (Int z) b = leafInt (λ w. leZ z w) b
+leafOrdered (Hex h) b = leafHex (λ w. leb h w) b
+
+-- v lies from low to high: three ints, or three hexes
 abbrev pub leafWithin : Leaf → Leaf → Leaf → Bool
 leafWithin low high (Three v) = false
 leafWithin low high (Note at n) = false

@@ -7,12 +7,12 @@ ghost use lib.Dec.{leb};
 ghost use lib.Signed.{leZ};
 ghost use Rattle.meaning.specs.declared.Outcome.the-variants.{Fault};
 ghost use Rattle.meaning.specs.Base.{when, firstBelow};
-ghost use Rattle.meaning.specs.Table.{contentIn, contentOf, valueOf, aThree, aText, anInt, aHex};
+ghost use Rattle.meaning.specs.Table.{contentIn, contentOf, valueOf, aThree, aText};
 ghost use Rattle.meaning.specs.Values.{promptValue};
 ghost use Rattle.meaning.specs.Book.{ranges as rangesOf};
 ghost use Rattle.meaning.specs.Rules.{typeFits, sameContent, broken13Content, threeTests, test10, test14};
 ghost use Rattle.spell.specs.Leaves.{leafContent};
-ghost use Rattle.symbol_rules.specs.Leaves.{leafInt, leafHex, leafWithin};
+ghost use Rattle.symbol_rules.specs.Leaves.{leafInt, leafHex, leafOrdered, leafWithin};
 use meaning::Outcome;
 use meaning::Value;
 use spell::Leaf;
@@ -72,10 +72,7 @@ fn same_three(m: &[u8], t: &[u8], v: u8, b: Leaf) -> bool
 {
     match b {
         Leaf::Three(w) => v == w,
-        Leaf::Note(_, _) => false,
-        Leaf::Text(_, _) => false,
-        Leaf::Int(_) => false,
-        Leaf::Hex(_) => false,
+        _ => false,
     }
 }
 
@@ -84,41 +81,44 @@ fn same_text(x: &[u8], m: &[u8], t: &[u8], b: Leaf) -> bool
     ensures { λ r. ⌜ r ≡ sameContent (aText (now (x .entry))) (leafContent (now (m .entry)) (now (t .entry)) b) ⌝ }
 {
     match b {
-        Leaf::Three(_) => false,
         Leaf::Note(at, n) => raw::same(x, raw::part(m, at, n)),
         Leaf::Text(at, n) => raw::same(x, raw::part(t, at, n)),
-        Leaf::Int(_) => false,
-        Leaf::Hex(_) => false,
+        _ => false,
     }
 }
 
-// Whether leaf b is the int z.
-fn same_int(m: &[u8], t: &[u8], z: i32, b: Leaf) -> bool
-    ensures { λ r. ⌜ r ≡ sameContent (anInt z) (leafContent (now (m .entry)) (now (t .entry)) b) ⌝ }
+// Whether leaf b is an int of at least z.
+fn int_to(z: i32, b: Leaf) -> bool
+    ensures { λ r. ⌜ r ≡ leafInt (λ w. leZ z w) b ⌝ }
 {
     match b {
-        Leaf::Three(_) => false,
-        Leaf::Note(_, _) => false,
-        Leaf::Text(_, _) => false,
-        Leaf::Int(w) => (z <= w) & (w <= z),
-        Leaf::Hex(_) => false,
+        Leaf::Int(w) => z <= w,
+        _ => false,
     }
 }
 
-// Whether leaf b is the hex h.
-fn same_hex(m: &[u8], t: &[u8], h: u32, b: Leaf) -> bool
-    ensures { λ r. ⌜ r ≡ sameContent (aHex h) (leafContent (now (m .entry)) (now (t .entry)) b) ⌝ }
+// Whether leaf b is a hex of at least h.
+fn hex_to(h: u32, b: Leaf) -> bool
+    ensures { λ r. ⌜ r ≡ leafHex (λ w. leb h w) b ⌝ }
 {
     match b {
-        Leaf::Three(_) => false,
-        Leaf::Note(_, _) => false,
-        Leaf::Text(_, _) => false,
-        Leaf::Int(_) => false,
-        Leaf::Hex(w) => h == w,
+        Leaf::Hex(w) => h <= w,
+        _ => false,
     }
 }
 
-// Whether two leaves are of one kind and content.
+// Whether a is at most b: two ints, or two hexes.
+fn ordered(a: Leaf, b: Leaf) -> bool
+    ensures { λ r. ⌜ r ≡ leafOrdered a b ⌝ }
+{
+    match a {
+        Leaf::Int(z) => int_to(z, b),
+        Leaf::Hex(h) => hex_to(h, b),
+        _ => false,
+    }
+}
+
+// Whether two leaves are of one kind and content. Two ints, or two hexes, are where each is at most the other.
 fn same_content(m: &[u8], t: &[u8], a: Leaf, b: Leaf) -> bool
     ensures { λ r. ⌜ r ≡ sameContent (leafContent (now (m .entry)) (now (t .entry)) a) (leafContent (now (m .entry)) (now (t .entry)) b) ⌝ }
 {
@@ -126,8 +126,7 @@ fn same_content(m: &[u8], t: &[u8], a: Leaf, b: Leaf) -> bool
         Leaf::Three(v) => same_three(m, t, v, b),
         Leaf::Note(at, n) => same_text(raw::part(m, at, n), m, t, b),
         Leaf::Text(at, n) => same_text(raw::part(t, at, n), m, t, b),
-        Leaf::Int(z) => same_int(m, t, z, b),
-        Leaf::Hex(h) => same_hex(m, t, h, b),
+        _ => ordered(a, b) & ordered(b, a),
     }
 }
 
@@ -142,69 +141,11 @@ pub fn other_by(m: &[u8], t: &[u8], vs: &[u8], s: usize, d: Leaf) -> Outcome
     raw::fault_if(bad, 13, s, 65535)
 }
 
-// Whether leaf low is an int of at most z.
-fn int_from(low: Leaf, z: i32) -> bool
-    ensures { λ r. ⌜ r ≡ leafInt (λ a. leZ a z) low ⌝ }
-{
-    match low {
-        Leaf::Three(_) => false,
-        Leaf::Note(_, _) => false,
-        Leaf::Text(_, _) => false,
-        Leaf::Int(a) => a <= z,
-        Leaf::Hex(_) => false,
-    }
-}
-
-// Whether leaf high is an int of at least z.
-fn int_to(z: i32, high: Leaf) -> bool
-    ensures { λ r. ⌜ r ≡ leafInt (λ b. leZ z b) high ⌝ }
-{
-    match high {
-        Leaf::Three(_) => false,
-        Leaf::Note(_, _) => false,
-        Leaf::Text(_, _) => false,
-        Leaf::Int(b) => z <= b,
-        Leaf::Hex(_) => false,
-    }
-}
-
-// Whether leaf low is a hex of at most h.
-fn hex_from(low: Leaf, h: u32) -> bool
-    ensures { λ r. ⌜ r ≡ leafHex (λ a. leb a h) low ⌝ }
-{
-    match low {
-        Leaf::Three(_) => false,
-        Leaf::Note(_, _) => false,
-        Leaf::Text(_, _) => false,
-        Leaf::Int(_) => false,
-        Leaf::Hex(a) => a <= h,
-    }
-}
-
-// Whether leaf high is a hex of at least h.
-fn hex_to(h: u32, high: Leaf) -> bool
-    ensures { λ r. ⌜ r ≡ leafHex (λ b. leb h b) high ⌝ }
-{
-    match high {
-        Leaf::Three(_) => false,
-        Leaf::Note(_, _) => false,
-        Leaf::Text(_, _) => false,
-        Leaf::Int(_) => false,
-        Leaf::Hex(b) => h <= b,
-    }
-}
-
 // Whether v lies from low to high: three ints, or three hexes.
 fn within(low: Leaf, high: Leaf, v: Leaf) -> bool
     ensures { λ r. ⌜ r ≡ leafWithin low high v ⌝ }
 {
-    match v {
-        Leaf::Three(_) => false,
-        Leaf::Note(_, _) => false,
-        Leaf::Text(_, _) => false,
-        Leaf::Int(z) => int_from(low, z) & int_to(z, high),
-        Leaf::Hex(h) => hex_from(low, h) & hex_to(h, high),
-    }
+    ordered(low, v) & ordered(v, high)
 }
 
 // 14 at s, if range r is on it and broken.

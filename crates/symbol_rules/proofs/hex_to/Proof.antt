@@ -1,54 +1,20 @@
--- `symbol_rules::hex_to` meets its contract: kind by kind.
+-- `symbol_rules::hex_to` meets its contract: hexes are compared unsigned, and no other leaf is one.
 use lib.Dec.{leb}
-use Rattle.symbol_rules.specs.Leaves.{leafHex}
-use mathlib.Core.Path.{_≡_, refl, sym, _∙_, ap, ap₂}
+use Rattle.symbol_rules.proofs.Laws.{not-hex}
 use borrow.Author.Needs.{needs}
 use Rattle.symbol_rules.proofs.hex_to.Statement.{statement}
 use Rattle.symbol_rules.proofs.hex_to.Tie as tie
 use Rattle.symbol_rules.proofs.hex_to.Reads as reads
 use Rattle.symbol_rules.proofs.hex_to.Lts as lts
 
-enum-told : tie.Need-enum-told
-enum-told c = search needs
-
-enum-told-2 : tie.Need-enum-told-2
-enum-told-2 c = search needs
-
-enum-told-3 : tie.Need-enum-told-3
-enum-told-3 c = search needs
-
-enum-told-4 : tie.Need-enum-told-4
-enum-told-4 c = search needs
-
-enum-known-high : tie.Need-enum-known-high
-enum-known-high c = search needs
+enum-known-b : tie.Need-enum-known-b
+enum-known-b c = search needs
 
 returns : tie.Need-returns
-returns c = search needs
+returns c = rw (c .before .b .given .1)
 
 returns-2 : tie.Need-returns-2
-returns-2 c = search needs
-
-returns-3 : tie.Need-returns-3
-returns-3 c = search needs
-
-returns-4 : tie.Need-returns-4
-returns-4 c = search needs
-
-returns-5 : tie.Need-returns-5
-returns-5 c = sym (ap (leafHex (λ b. leb (c .before .before .before .args .h) b)) (c .before .high .given .1))
+returns-2 c = not-hex (λ w. leb (c .before .args .h) w) (c .before .args .b) (c .match .keys2)
 
 pub hex-to-spec : {M : Type 1} → statement M
-hex-to-spec =
-    tie.close
-    (tie.spec
-    enum-told
-    enum-told-2
-    enum-told-3
-    enum-told-4
-    enum-known-high
-    returns
-    returns-2
-    returns-3
-    returns-4
-    returns-5)
+hex-to-spec = tie.close (tie.spec enum-known-b returns returns-2)

@@ -1,55 +1,20 @@
--- `symbol_rules::int_to` meets its contract: kind by kind.
-use Rattle.symbol_rules.proofs.Laws.{le-int}
+-- `symbol_rules::int_to` meets its contract: ints are compared signed, and no other leaf is one.
 use lib.Signed.{leZ}
-use Rattle.symbol_rules.specs.Leaves.{leafInt}
-use mathlib.Core.Path.{_≡_, refl, sym, _∙_, ap, ap₂}
+use Rattle.symbol_rules.proofs.Laws.{le-int, not-int}
 use borrow.Author.Needs.{needs}
 use Rattle.symbol_rules.proofs.int_to.Statement.{statement}
 use Rattle.symbol_rules.proofs.int_to.Tie as tie
 use Rattle.symbol_rules.proofs.int_to.Reads as reads
 use Rattle.symbol_rules.proofs.int_to.Lts as lts
 
-enum-told : tie.Need-enum-told
-enum-told c = search needs
-
-enum-told-2 : tie.Need-enum-told-2
-enum-told-2 c = search needs
-
-enum-told-3 : tie.Need-enum-told-3
-enum-told-3 c = search needs
-
-enum-known-high : tie.Need-enum-known-high
-enum-known-high c = search needs
-
-enum-told-4 : tie.Need-enum-told-4
-enum-told-4 c = search needs
+enum-known-b : tie.Need-enum-known-b
+enum-known-b c = search needs
 
 returns : tie.Need-returns
-returns c = search needs
+returns c = rw (c .before .b .given .1) (le-int _ _ (c .before .before .before .fits .z) (record { sfits = c .known-told .given .0 .1 }))
 
 returns-2 : tie.Need-returns-2
-returns-2 c = search needs
-
-returns-3 : tie.Need-returns-3
-returns-3 c = search needs
-
-returns-4 : tie.Need-returns-4
-returns-4 c = le-int (c .before .before .before .args .z) (c .before .high .given .0 .0) (c .before .before .before .fits .z) (record { sfits = c .known-told .given .0 .1 }) ∙ sym (ap (leafInt (λ b. leZ (c .before .before .before .args .z) b)) (c .before .high .given .1))
-
-returns-5 : tie.Need-returns-5
-returns-5 c = search needs
+returns-2 c = not-int (λ w. leZ (c .before .args .z) w) (c .before .args .b) (c .match .keys2)
 
 pub int-to-spec : {M : Type 1} → statement M
-int-to-spec =
-    tie.close
-    (tie.spec
-    enum-told
-    enum-told-2
-    enum-told-3
-    enum-known-high
-    enum-told-4
-    returns
-    returns-2
-    returns-3
-    returns-4
-    returns-5)
+int-to-spec = tie.close (tie.spec enum-known-b returns returns-2)

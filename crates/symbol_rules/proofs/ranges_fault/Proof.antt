@@ -2,7 +2,7 @@
 use Rattle.meaning.specs.Base.{firstBelow}
 use Rattle.meaning.specs.declared.Outcome.the-variants.{Clean}
 use native.Mathlib.Omega.{arith}
-use mathlib.Core.Path.{_≡_, refl, sym, _∙_, ap, ap₂}
+use mathlib.Core.Path.{_≡_, sym}
 use Prim.Native.Nat.{_≤_, _-_}
 use Rattle.meaning.specs.Rules.{test14}
 use Rattle.meaning.proofs.First.{clean-none, clean-more, place-fault}

@@ -1,18 +1,14 @@
 -- `symbol_rules::same_content` meets its contract: kind by kind.
-use mir.ValLaws.{toZ-ofZ}
-use mir.Syntax.{w32}
-use Rattle.meaning.specs.Table.{aText, anInt}
+use mathlib.Core.Path.{_∙_, ap}
 use Rattle.spell.specs.Leaves.{leafContent}
-use Rattle.meaning.specs.Rules.{sameContent}
-use mathlib.Core.Path.{_≡_, refl, sym, _∙_, ap, ap₂}
+use Rattle.symbol_rules.proofs.Laws.{as-text, same-ordered}
 use borrow.Author.Needs.{needs}
 use Rattle.symbol_rules.proofs.same_content.Statement.{statement}
 use Rattle.symbol_rules.proofs.same_content.Tie as tie
 use Rattle.symbol_rules.proofs.same_content.Reads as reads
 use Rattle.symbol_rules.proofs.same_content.Lts as lts
 use Rattle.raw.proofs.part.Reads as part-reads
-use Rattle.symbol_rules.proofs.same_hex.Reads as same-hex-reads
-use Rattle.symbol_rules.proofs.same_int.Reads as same-int-reads
+use Rattle.symbol_rules.proofs.ordered.Reads as ordered-reads
 use Rattle.symbol_rules.proofs.same_text.Reads as same-text-reads
 use Rattle.symbol_rules.proofs.same_three.Reads as same-three-reads
 
@@ -40,32 +36,23 @@ part-requires-2 c κs = search needs
 same-text-requires-2 : tie.Need-same-text-requires-2
 same-text-requires-2 c κs = search needs
 
-enum-known-a-4 : tie.Need-enum-known-a-4
-enum-known-a-4 c = search needs
+ordered-requires : tie.Need-ordered-requires
+ordered-requires c κs = search needs
 
-same-int-requires : tie.Need-same-int-requires
-same-int-requires c κs = search needs
-
-enum-known-a-5 : tie.Need-enum-known-a-5
-enum-known-a-5 c = search needs
-
-same-hex-requires : tie.Need-same-hex-requires
-same-hex-requires c κs = search needs
+ordered-requires-2 : tie.Need-ordered-requires-2
+ordered-requires-2 c κs = search needs
 
 returns : tie.Need-returns
-returns c = c .same-three .ensures ∙ sym (ap (λ l. sameContent (leafContent (c .before .before .before .before .before .before .args .m .now) (c .before .before .before .before .before .before .args .t .now) l) (leafContent (c .before .before .before .before .before .before .args .m .now) (c .before .before .before .before .before .before .args .t .now) (c .before .before .before .before .before .before .args .b))) (c .before .before .a .given .1))
+returns c = c .same-three .ensures ∙ rw (c .before .before .a .given .1)
 
 returns-2 : tie.Need-returns-2
-returns-2 c = c .same-text .ensures ∙ ap (λ x. sameContent (aText x) (leafContent (c .before .before .before .before .before .before .before .args .m .now) (c .before .before .before .before .before .before .before .args .t .now) (c .before .before .before .before .before .before .before .args .b))) (c .before .part .ensures) ∙ sym (ap (λ l. sameContent (leafContent (c .before .before .before .before .before .before .before .args .m .now) (c .before .before .before .before .before .before .before .args .t .now) l) (leafContent (c .before .before .before .before .before .before .before .args .m .now) (c .before .before .before .before .before .before .before .args .t .now) (c .before .before .before .before .before .before .before .args .b))) (c .before .before .before .a2 .given .1))
+returns-2 c = as-text (c .before .before .before .before .before .before .before .args .m .now) (c .before .before .before .before .before .before .before .args .t .now) (c .before .before .before .before .before .before .before .args .a) (c .before .before .before .before .before .before .before .args .b) (c .same-text .ensures) (c .before .part .ensures) (ap (leafContent (c .before .before .before .before .before .before .before .args .m .now) (c .before .before .before .before .before .before .before .args .t .now)) (c .before .before .before .a2 .given .1))
 
 returns-3 : tie.Need-returns-3
-returns-3 c = c .same-text2 .ensures ∙ ap (λ x. sameContent (aText x) (leafContent (c .before .before .before .before .before .before .before .args .m .now) (c .before .before .before .before .before .before .before .args .t .now) (c .before .before .before .before .before .before .before .args .b))) (c .before .part2 .ensures) ∙ sym (ap (λ l. sameContent (leafContent (c .before .before .before .before .before .before .before .args .m .now) (c .before .before .before .before .before .before .before .args .t .now) l) (leafContent (c .before .before .before .before .before .before .before .args .m .now) (c .before .before .before .before .before .before .before .args .t .now) (c .before .before .before .before .before .before .before .args .b))) (c .before .before .before .a3 .given .1))
+returns-3 c = as-text (c .before .before .before .before .before .before .before .args .m .now) (c .before .before .before .before .before .before .before .args .t .now) (c .before .before .before .before .before .before .before .args .a) (c .before .before .before .before .before .before .before .args .b) (c .same-text2 .ensures) (c .before .part2 .ensures) (ap (leafContent (c .before .before .before .before .before .before .before .args .m .now) (c .before .before .before .before .before .before .before .args .t .now)) (c .before .before .before .a3 .given .1))
 
 returns-4 : tie.Need-returns-4
-returns-4 c = c .same-int .ensures ∙ ap (λ x. sameContent (anInt x) (leafContent (c .before .before .before .before .before .before .args .m .now) (c .before .before .before .before .before .before .args .t .now) (c .before .before .before .before .before .before .args .b))) (toZ-ofZ w32 (c .before .before .a4 .given .0 .0) (record { sfits = c .before .known-told4 .given .0 .1 })) ∙ sym (ap (λ l. sameContent (leafContent (c .before .before .before .before .before .before .args .m .now) (c .before .before .before .before .before .before .args .t .now) l) (leafContent (c .before .before .before .before .before .before .args .m .now) (c .before .before .before .before .before .before .args .t .now) (c .before .before .before .before .before .before .args .b))) (c .before .before .a4 .given .1))
-
-returns-5 : tie.Need-returns-5
-returns-5 c = c .same-hex .ensures ∙ sym (ap (λ l. sameContent (leafContent (c .before .before .before .before .before .before .args .m .now) (c .before .before .before .before .before .before .args .t .now) l) (leafContent (c .before .before .before .before .before .before .args .m .now) (c .before .before .before .before .before .before .args .t .now) (c .before .before .before .before .before .before .args .b))) (c .before .before .a5 .given .1))
+returns-4 c = rw (c .before .ordered .ensures, c .ordered2 .ensures) (same-ordered (c .before .before .before .before .before .args .m .now) (c .before .before .before .before .before .args .t .now) (c .before .before .before .before .before .args .a) (c .before .before .before .before .before .args .b) (c .before .before .match .keys4))
 
 pub same-content-spec : {M : Type 1} → statement M
 same-content-spec =
@@ -79,12 +66,9 @@ same-content-spec =
     enum-known-a-3
     part-requires-2
     same-text-requires-2
-    enum-known-a-4
-    same-int-requires
-    enum-known-a-5
-    same-hex-requires
+    ordered-requires
+    ordered-requires-2
     returns
     returns-2
     returns-3
-    returns-4
-    returns-5)
+    returns-4)

@@ -1,8 +1,5 @@
--- `symbol_rules::same_three` meets its contract: kind by kind.
-use Rattle.meaning.specs.Table.{aThree}
-use Rattle.spell.specs.Leaves.{leafContent}
-use Rattle.meaning.specs.Rules.{sameContent}
-use mathlib.Core.Path.{_≡_, refl, sym, _∙_, ap, ap₂}
+-- `symbol_rules::same_three` meets its contract: no other kind of leaf is a value.
+use Rattle.symbol_rules.proofs.Laws.{not-three}
 use borrow.Author.Needs.{needs}
 use Rattle.symbol_rules.proofs.same_three.Statement.{statement}
 use Rattle.symbol_rules.proofs.same_three.Tie as tie
@@ -12,44 +9,11 @@ use Rattle.symbol_rules.proofs.same_three.Lts as lts
 enum-known-b : tie.Need-enum-known-b
 enum-known-b c = search needs
 
-enum-told : tie.Need-enum-told
-enum-told c = search needs
-
-enum-told-2 : tie.Need-enum-told-2
-enum-told-2 c = search needs
-
-enum-told-3 : tie.Need-enum-told-3
-enum-told-3 c = search needs
-
-enum-told-4 : tie.Need-enum-told-4
-enum-told-4 c = search needs
-
 returns : tie.Need-returns
-returns c = sym (ap (λ l. sameContent (aThree (c .before .before .before .args .v)) (leafContent (c .before .before .before .args .m .now) (c .before .before .before .args .t .now) l)) (c .before .b .given .1))
+returns c = rw (c .before .b .given .1)
 
 returns-2 : tie.Need-returns-2
-returns-2 c = search needs
-
-returns-3 : tie.Need-returns-3
-returns-3 c = search needs
-
-returns-4 : tie.Need-returns-4
-returns-4 c = search needs
-
-returns-5 : tie.Need-returns-5
-returns-5 c = search needs
+returns-2 c = not-three (c .before .args .m .now) (c .before .args .t .now) (c .before .args .v) (c .before .args .b) (c .match .keys2)
 
 pub same-three-spec : {M : Type 1} → statement M
-same-three-spec =
-    tie.close
-    (tie.spec
-    enum-known-b
-    enum-told
-    enum-told-2
-    enum-told-3
-    enum-told-4
-    returns
-    returns-2
-    returns-3
-    returns-4
-    returns-5)
+same-three-spec = tie.close (tie.spec enum-known-b returns returns-2)

@@ -1,7 +1,7 @@
 -- `symbol_rules::type_fits` meets its contract: kind by kind.
 use Rattle.meaning.specs.Table.{contentIn}
 use Rattle.meaning.specs.Rules.{typeFits}
-use mathlib.Core.Path.{_≡_, refl, sym, _∙_, ap, ap₂}
+use mathlib.Core.Path.{sym, ap}
 use borrow.Author.Needs.{needs}
 use Rattle.symbol_rules.proofs.type_fits.Statement.{statement}
 use Rattle.symbol_rules.proofs.type_fits.Tie as tie
