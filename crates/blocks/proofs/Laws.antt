@@ -33,6 +33,18 @@ place-in t base a lt lb e l = let z : t + 65536 - base ≡ a + 65536 = omega ari
 place-out : (t base a : ℕ) → t < 65536 → base < 65536 → base + a < 65536 → (t ≡ base + a → ⊥) → a < 80 → a ≡ placeOf t base → ⊥
 place-out t base a lt lb lw n l e = n (omega arith)
 
+-- A STORE of v at the place of symbol t: what then stands at the place a
+module _ (room : List ℕ) (base a : ℕ) {t i : ℕ} (v : ℕ) (lt : t < 65536) (lb : base < 65536) (ei : i ≡ placeOf t base) (l : a < 80)
+    (w : base + a < 65536) where
+  stored-here : length room ≡ 80 → eqb t (base + a) ≡ true → (i ≡ a) × (getD (set room i v) a 0 ≡ v)
+  stored-here len h = let z : i ≡ a = ei ∙ place-in t base a lt lb (eqb-true _ _ h) l in (z, rw z (getD-set-same room a v 0 (omega arith)))
+
+  stored-apart : eqb t (base + a) ≡ false → getD (set room i v) a 0 ≡ getD room a 0
+  stored-apart h = getD-set-other room i a v 0 (λ e. place-out t base a lt lb w (eqb-false _ _ h) l (e ∙ ei))
+
+  not-here : 80 ≤ i → eqb t (base + a) ≡ true → ⊥
+  not-here out h = absurd (omega (arith, ei ∙ place-in t base a lt lb (eqb-true _ _ h) l))
+
 -- A PASS: before its first turn, and after the turn of record j, on symbol t, that stores v at place i, or nothing outside the block
 module _ (step : ℕ → ℕ → ℕ → ℕ) (base : ℕ) where
   pub rows-none : Rows step 0 base (replicate 80 0)
@@ -41,10 +53,9 @@ module _ (step : ℕ → ℕ → ℕ → ℕ) (base : ℕ) where
 
   module _ (room : List ℕ) (j : ℕ) (f : ℕ → ℕ) {t i : ℕ} (es : (s x : ℕ) → step s j x ≡ pick (eqb t s) (f x) x) (lt : t < 65536) (lb : base < 65536)
       (ei : i ≡ placeOf t base) (all : Rows step j base room) where
-    off : (a : ℕ) → a < 80 → base + a < 65536 → eqb t (base + a) ≡ false → (a ≡ i → ⊥) × (getD room a 0 ≡ fold (step (base + a)) 0 (suc j))
+    off : (a : ℕ) → a < 80 → base + a < 65536 → eqb t (base + a) ≡ false → getD room a 0 ≡ fold (step (base + a)) 0 (suc j)
     unfolding fold
-    off a l w h =
-        (λ e. place-out t base a lt lb w (eqb-false _ _ h) l (e ∙ ei), rw (es (base + a) (fold (step (base + a)) 0 j), h) (all a l w))
+    off a l w h = rw (es (base + a) (fold (step (base + a)) 0 j), h) (all a l w)
 
     pub rows-more : {v : ℕ} → v ≡ f (getD room i 0) → length room ≡ 80 → Rows step (j + 1) base (set room i v)
     unfolding fold
@@ -52,18 +63,17 @@ module _ (step : ℕ → ℕ → ℕ → ℕ) (base : ℕ) where
       where
         turn : (q : Bool) → eqb t (base + a) ≡ q → getD (set room i v) a 0 ≡ step (base + a) j (fold (step (base + a)) 0 j)
         turn true h =
-            let z : i ≡ a = ei ∙ place-in t base a lt lb (eqb-true _ _ h) l in
-            let u : v ≡ f (fold (step (base + a)) 0 j) = ev ∙ rw z (ap f (all a l w)) in
-            rw (es (base + a) (fold (step (base + a)) 0 j), h, z) (getD-set-same room a v 0 (omega arith) ∙ u)
-        turn false h = let o = off a l w h in getD-set-other room i a v 0 (o .0) ∙ o .1
+            let z = stored-here room base a v lt lb ei l w len h in
+            rw (es (base + a) (fold (step (base + a)) 0 j), h) (z .1 ∙ ev ∙ rw (z .0) (ap f (all a l w)))
+        turn false h = stored-apart room base a v lt lb ei l w h ∙ off a l w h
 
     pub rows-same : 80 ≤ i → Rows step (j + 1) base room
     unfolding fold
     rows-same out a l w = rw (add-one j) (turn (eqb t (base + a)) refl)
       where
         turn : (q : Bool) → eqb t (base + a) ≡ q → getD room a 0 ≡ step (base + a) j (fold (step (base + a)) 0 j)
-        turn true h = absurd (omega (arith, ei ∙ place-in t base a lt lb (eqb-true _ _ h) l))
-        turn false h = off a l w h .1
+        turn true h = absurd (not-here room base a 0 lt lb ei l w out h)
+        turn false h = off a l w h
 
   pub rows-at : (room : List ℕ) (n s : ℕ) → Rows step n base room → base ≤ s → s < base + 80 → s < 65536 → getD room (s - base) 0 ≡ fold (step s) 0 n
   rows-at room n s all l h w = let e : base + (s - base) ≡ s = omega arith in all (s - base) (omega arith) (omega arith) ∙ rw e
@@ -126,18 +136,16 @@ module _ (m t vs : List ℕ) (base : ℕ) where
         turn : (q : Bool) → eqb s (base + a) ≡ q
             → (getD (set room i v) a 0 % 4 ≡ lowerOf m t vs (base + a)) × (getD (set room i v) a 0 < 4 → Free m (r + 1) (base + a))
         turn true h =
-            let z : i ≡ a = ei ∙ place-in s base a ls lb (eqb-true _ _ h) l in
-            let u : getD (set room i v) a 0 ≡ getD room a 0 % 4 + 4 = rw z (getD-set-same room a v 0 (omega arith)) ∙ ev ∙ rw z in
+            let z = stored-here room base a v ls lb ei l w len h in
+            let u : getD (set room i v) a 0 ≡ getD room a 0 % 4 + 4 = z .1 ∙ ev ∙ rw (z .0) in
             (omega (arith, u, all a l w .0), λ k. absurd (omega (arith, u)))
-        turn false h =
-            let u : getD (set room i v) a 0 ≡ getD room a 0 = getD-set-other room i a v 0 (λ e. place-out s base a ls lb w (eqb-false _ _ h) l (e ∙ ei)) in
-            (rw u (all a l w .0), λ k. free a l w h (omega (arith, u)))
+        turn false h = let u = stored-apart room base a v ls lb ei l w h in (rw u (all a l w .0), λ k. free a l w h (omega (arith, u)))
 
     pub marked-same : 80 ≤ i → Marked m t vs (r + 1) base room
     marked-same out a l w = (all a l w .0, turn (eqb s (base + a)) refl)
       where
         turn : (q : Bool) → eqb s (base + a) ≡ q → getD room a 0 < 4 → Free m (r + 1) (base + a)
-        turn true h = absurd (omega (arith, ei ∙ place-in s base a ls lb (eqb-true _ _ h) l))
+        turn true h = absurd (not-here room base a 0 ls lb ei l w out h)
         turn false h = free a l w h
 
   pub marked-at : (room : List ℕ) (n s : ℕ) → Marked m t vs n base room → base ≤ s → s < base + 80 → s < 65536

@@ -25,6 +25,7 @@ use Rattle.spell.specs.declared.Leaf.{Leaf}
 use Rattle.spell.specs.declared.Leaf.the-variants.{Three, Note, Text, Int, Hex}
 use Rattle.spell.specs.Leaves.{leafContent, leafOfValue}
 use Rattle.spell.proofs.Leaf.{the-type}
+use Rattle.raw.proofs.Laws.{and-false}
 use Rattle.values.proofs.Laws.{as-leaf}
 use Rattle.symbol_rules.specs.Leaves.{leafInt, leafHex, leafOrdered, leafWithin}
 
@@ -125,10 +126,6 @@ from-hex (Note at n) h = refl
 from-hex (Text at n) h = refl
 from-hex (Int a) h = refl
 from-hex (Hex g) h = refl
-
-and-false : (a : Bool) → a && false ≡ false
-and-false true = refl
-and-false false = refl
 
 pub within-ordered : (low high v : Leaf) → leafOrdered low v && leafOrdered v high ≡ leafWithin low high v
 within-ordered low high (Three v) = and-false (leafOrdered low (Three v))

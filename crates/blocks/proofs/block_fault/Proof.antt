@@ -13,6 +13,7 @@ use lib.Dec.{ltb}
 use Prim.Native.Nat.{suc, _≤_, _+_, _-_}
 use native.Mathlib.Omega.{arith}
 use mathlib.Core.Path.{_≡_, refl, sym, _∙_, ap}
+use Rattle.raw.proofs.Ends.{at-end}
 use borrow.Author.Needs.{needs}
 use Rattle.blocks.proofs.block_fault.Statement.{statement}
 use Rattle.blocks.proofs.block_fault.Tie as tie
@@ -336,7 +337,7 @@ loop4-again c = (omega arith, omega arith, clean-more _ _ (c .before .before .be
 
 returns-2 :
     tie.Need-returns-2 Inv-loop μ-loop Inv-loop2 μ-loop2 Inv-loop3 μ-loop3 Inv-loop4 μ-loop4
-returns-2 c = let e : c .before .loop4 .s ≡ c .before .before .before .before .before .before .before .before .before .before .before .before .before .before .before .before .args .end = omega arith in sym (rw e at (c .before .loop4 .inv .2))
+returns-2 c = at-end (firstBelow _) (c .before .loop4 .inv .2) (omega arith)
 
 pub block-fault-spec : {M : Type 1} → statement M
 block-fault-spec =

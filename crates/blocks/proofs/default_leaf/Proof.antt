@@ -1,5 +1,5 @@
-use Rattle.meaning.specs.Base.{part}
 -- `blocks::default_leaf` meets its contract: the empty text without a default, else its value leaf.
+use Rattle.meaning.specs.Base.{part}
 use borrow.Author.Tests.{eq-eqb, ne-eqb, lt-ltb, le-ltb}
 use mathlib.Core.Path.{_≡_, refl, sym, _∙_, ap}
 use borrow.Author.Needs.{needs}

@@ -1,6 +1,5 @@
 -- `blocks::fault` meets its contract: what a block answers is the answer if it is a fault, and the last block ends at the last symbol.
 use Prim.Native.Nat.{_≤_, _+_, _-_}
--- `blocks::fault` meets its contract: what a block answers is the answer if it is a fault, and the last block ends at the last symbol.
 use Rattle.meaning.proofs.First.{clean-none, block-fault}
 use Rattle.meaning.specs.Rules.{symbolFault}
 use Rattle.meaning.specs.Base.{firstBelow}

@@ -1,6 +1,5 @@
 -- `book::chain_fault` meets its contract: it goes on while every section is in place, stops at the first that is not, and looks at the end last.
 use Rattle.meaning.proofs.First.{first-fault, first-clean, clean-none, clean-more, place-fault}
--- `book::chain_fault` meets its contract: it goes on while every section is in place, stops at the first that is not, and looks at the end last.
 use Rattle.meaning.specs.Book.{chainFault, chainAt, endFault}
 use Rattle.meaning.specs.Base.{firstBelow}
 use Rattle.meaning.specs.declared.Outcome.the-variants.{Clean}

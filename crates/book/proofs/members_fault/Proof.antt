@@ -6,6 +6,7 @@ use native.Mathlib.Omega.{arith}
 use mathlib.Core.Path.{_≡_, sym}
 use Prim.Native.Nat.{_≤_, _-_}
 use Rattle.meaning.proofs.First.{clean-none, clean-more, place-fault}
+use Rattle.raw.proofs.Ends.{at-end}
 use borrow.Author.Needs.{needs}
 use Rattle.book.proofs.members_fault.Statement.{statement}
 use Rattle.book.proofs.members_fault.Tie as tie
@@ -50,7 +51,7 @@ loop-again c = (omega arith, clean-more _ _ (c .before .before .before .before .
 
 returns-2 : tie.Need-returns-2 Inv-loop μ-loop
 unfolding membersFault
-returns-2 c = let e : c .before .loop .c ≡ c .before .before .choices .result = omega arith in sym (rw (e, c .before .before .choices .ensures .0) at (c .before .loop .inv .1))
+returns-2 c = at-end (firstBelow _) (c .before .loop .inv .1) (omega arith)
 
 pub members-fault-spec : {M : Type 1} → statement M
 members-fault-spec =

@@ -5,7 +5,8 @@ use Rattle.meaning.specs.Base.{firstBelow}
 use Rattle.meaning.specs.declared.Outcome.the-variants.{Clean}
 use Prim.Native.Nat.{_≤_, _-_}
 use native.Mathlib.Omega.{arith}
-use mathlib.Core.Path.{_≡_, sym}
+use mathlib.Core.Path.{_≡_, sym, refl, _∙_, ap}
+use Rattle.raw.proofs.Ends.{at-end}
 use borrow.Author.Needs.{needs}
 use Rattle.book.proofs.section_fault.Statement.{statement}
 use Rattle.book.proofs.section_fault.Tie as tie
@@ -57,7 +58,7 @@ loop-again c = (omega arith, clean-more _ _ (c .before .before .before .before .
 
 returns-3 : tie.Need-returns-3 Inv-loop μ-loop
 unfolding sectionFault
-returns-3 c = let e : c .before .loop .i ≡ c .before .before .count .result = omega arith in sym (rw (e, c .before .before .count .ensures .0) at (c .before .loop .inv .1))
+returns-3 c = at-end (firstBelow _) (c .before .loop .inv .1) (omega arith)
 
 pub section-fault-spec : {M : Type 1} → statement M
 section-fault-spec =

@@ -6,6 +6,7 @@ use native.Mathlib.Omega.{arith}
 use mathlib.Core.Path.{_≡_, sym}
 use Prim.Native.Nat.{_≤_, _-_}
 use Rattle.meaning.proofs.First.{clean-none, clean-more, place-fault}
+use Rattle.raw.proofs.Ends.{at-end}
 use borrow.Author.Needs.{needs}
 use Rattle.book.proofs.sections_fault.Statement.{statement}
 use Rattle.book.proofs.sections_fault.Tie as tie
@@ -49,7 +50,7 @@ unfolding sectionAfter
 loop-again c = (omega arith, clean-more _ _ (c .before .before .before .before .loop .inv .1) (c .before .before .section-fault .ensures) (c .enum-told2 .given .1))
 
 returns-2 : tie.Need-returns-2 Inv-loop μ-loop
-returns-2 c = let e : c .before .loop .k ≡ 6 = omega arith in sym (rw e at (c .before .loop .inv .1))
+returns-2 c = at-end (firstBelow _) (c .before .loop .inv .1) (omega arith)
 
 pub sections-fault-spec : {M : Type 1} → statement M
 sections-fault-spec =

@@ -1,13 +1,13 @@
 -- `choice_rules::first_that_is` meets its contract: it goes on while no member so far passes, and stops at the first that does.
 use Rattle.meaning.specs.Book.{memberCount}
--- `choice_rules::first_that_is` meets its contract: it goes on while no member so far passes, and stops at the first that does.
-use lib.Dec.{eqb}
-use Prim.Native.Nat.{_≤_, _-_}
+use lib.Dec.{eqb, leb, ltb}
+use Prim.Native.Nat.{_≤_, _-_, _+_, _<_}
 use native.Mathlib.Omega.{arith}
 use mathlib.Core.Path.{_≡_, sym, _∙_, ap}
 use Rattle.meaning.specs.Base.{firstWhere}
 use Rattle.meaning.proofs.Below.{first-none, first-more, first-hit}
 use Rattle.meaning.specs.Rules.{memberValue}
+use Rattle.raw.proofs.Ends.{at-end}
 use borrow.Author.Needs.{needs}
 use Rattle.choice_rules.proofs.first_that_is.Statement.{statement}
 use Rattle.choice_rules.proofs.first_that_is.Tie as tie
@@ -44,7 +44,7 @@ loop-again : tie.Need-loop-again Inv-loop μ-loop
 loop-again c = (omega arith, first-more (λ i. eqb (memberValue (c .before .before .before .before .before .before .before .before .args .m .now) (c .before .before .before .before .before .before .before .before .args .t .now) (c .before .before .before .before .before .before .before .before .args .c) i) (c .before .before .before .before .before .before .before .before .args .x)) (c .before .before .before .before .loop .j) {h = eqb (c .before .before .member-value .result .v) (c .before .before .before .before .before .before .before .before .args .x)} (c .before .before .before .before .loop .inv .1) (rw (c .before .before .member-value .ensures)) (c .if1 .left))
 
 returns-2 : tie.Need-returns-2 Inv-loop μ-loop
-returns-2 c = let e : c .before .before .member-count .result ≡ c .before .loop .j = omega arith in let q : c .before .loop .j ≡ memberCount (c .before .before .before .before .before .args .m .now) (c .before .before .before .before .before .args .c) = omega arith in (e ∙ sym (c .before .loop .inv .1) ∙ ap (firstWhere (λ i. eqb (memberValue (c .before .before .before .before .before .args .m .now) (c .before .before .before .before .before .args .t .now) (c .before .before .before .before .before .args .c) i) (c .before .before .before .before .before .args .x))) q, omega arith)
+returns-2 c = let e : c .before .before .member-count .result ≡ c .before .loop .j = omega arith in (e ∙ at-end (firstWhere _) (c .before .loop .inv .1) (omega arith), omega arith)
 
 pub first-that-is-spec : {M : Type 1} → statement M
 first-that-is-spec =

@@ -8,6 +8,7 @@ use Rattle.meaning.specs.Base.{firstWhere}
 use Rattle.meaning.proofs.Below.{first-none, first-more, first-hit}
 use Rattle.meaning.specs.Rules.{memberValue, firstYes, otherOf}
 use Rattle.meaning.specs.Book.{memberCount}
+use Rattle.raw.proofs.Ends.{at-end}
 use borrow.Author.Needs.{needs}
 use Rattle.choice_rules.proofs.other.Statement.{statement}
 use Rattle.choice_rules.proofs.other.Tie as tie
@@ -50,7 +51,7 @@ loop-again c = (omega arith, first-more (λ i. ltb 0 (memberValue (c .before .be
 
 returns-2 : tie.Need-returns-2 Inv-loop μ-loop
 unfolding otherOf firstYes
-returns-2 c = let e : c .before .before .member-count .result ≡ c .before .loop .j = omega arith in let q : c .before .loop .j ≡ memberCount (c .before .before .before .before .before .before .args .m .now) (c .before .before .before .before .before .before .args .c) = omega arith in (e ∙ rw (c .before .before .before .first-that-is .ensures .0) at (sym (c .before .loop .inv .1) ∙ ap (firstWhere (λ i. ltb 0 (memberValue (c .before .before .before .before .before .before .args .m .now) (c .before .before .before .before .before .before .args .t .now) (c .before .before .before .before .before .before .args .c) i) && not (eqb i (c .before .before .before .first-that-is .result)))) q), omega arith)
+returns-2 c = let e : c .before .before .member-count .result ≡ c .before .loop .j = omega arith in (e ∙ rw (c .before .before .before .first-that-is .ensures .0) at (at-end (firstWhere _) {n = memberCount (c .before .before .before .before .before .before .args .m .now) (c .before .before .before .before .before .before .args .c)} (c .before .loop .inv .1) (omega arith)), omega arith)
 
 pub other-spec : {M : Type 1} → statement M
 other-spec =

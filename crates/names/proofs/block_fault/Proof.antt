@@ -5,7 +5,8 @@ use Rattle.meaning.specs.Base.{firstBelow}
 use Rattle.meaning.specs.declared.Outcome.the-variants.{Clean}
 use Prim.Native.Nat.{_≤_, _-_}
 use native.Mathlib.Omega.{arith}
-use mathlib.Core.Path.{_≡_, sym}
+use mathlib.Core.Path.{_≡_, sym, refl, _∙_, ap}
+use Rattle.raw.proofs.Ends.{at-end}
 use borrow.Author.Needs.{needs}
 use Rattle.names.proofs.block_fault.Statement.{statement}
 use Rattle.names.proofs.block_fault.Tie as tie
@@ -44,7 +45,7 @@ loop-again : tie.Need-loop-again Inv-loop μ-loop
 loop-again c = (omega arith, omega arith, clean-more _ _ (c .before .before .before .before .loop .inv .2) (c .before .before .symbol-at .ensures) (c .enum-told2 .given .1))
 
 returns-2 : tie.Need-returns-2 Inv-loop μ-loop
-returns-2 c = let e : c .before .loop .s ≡ c .before .before .before .args .end = omega arith in sym (rw e at (c .before .loop .inv .2))
+returns-2 c = at-end (firstBelow _) (c .before .loop .inv .2) (omega arith)
 
 pub block-fault-spec : {M : Type 1} → statement M
 block-fault-spec =

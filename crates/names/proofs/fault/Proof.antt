@@ -5,7 +5,8 @@ use Rattle.meaning.specs.Base.{firstBelow}
 use Rattle.meaning.specs.declared.Outcome.the-variants.{Clean}
 use Prim.Native.Nat.{_≤_, _-_}
 use native.Mathlib.Omega.{arith}
-use mathlib.Core.Path.{_≡_, sym, _∙_}
+use mathlib.Core.Path.{_≡_, sym, _∙_, refl, ap}
+use Rattle.raw.proofs.Ends.{at-end}
 use borrow.Author.Needs.{needs}
 use Rattle.names.proofs.fault.Statement.{statement}
 use Rattle.names.proofs.fault.Tie as tie
@@ -58,7 +59,7 @@ loop-again c = (omega arith, sym (c .before .before .block-fault .ensures) ∙ c
 
 returns-2 : tie.Need-returns-2 Inv-loop μ-loop
 unfolding sectionFault
-returns-2 c = let e : c .before .loop .base ≡ c .before .before .symbols .result = omega arith in sym (rw (e, c .before .before .symbols .ensures .0) at (c .before .loop .inv .1))
+returns-2 c = at-end (firstBelow _) (c .before .loop .inv .1) (omega arith)
 
 pub fault-spec : {M : Type 1} → statement M
 fault-spec =

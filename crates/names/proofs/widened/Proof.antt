@@ -1,5 +1,5 @@
-use Rattle.names.proofs.Widening.{widens, widens-to}
 -- `names::widened` meets its contract: the span reaches down or up to the tag, or has it.
+use Rattle.names.proofs.Widening.{widens, widens-to}
 use Prim.Native.Nat.{_+_, _-_, _*_, _/_, _%_}
 use native.Mathlib.Omega.{arith}
 use borrow.Author.Needs.{needs}

@@ -1,7 +1,6 @@
 -- `records::digits_alone` meets its contract: it goes on while every byte so far passes, and stops at the first that does not.
 use borrow.Author.Tests.{not-true, not-false}
-use mathlib.Core.Bool.{true}
--- `records::digits_alone` meets its contract: it goes on while every byte so far passes, and stops at the first that does not.
+use mathlib.Core.Bool.{true, false, not}
 use native.Mathlib.Omega.{arith}
 use mathlib.Core.Path.{_≡_, sym}
 use lib.ListN.{getD}
@@ -9,6 +8,7 @@ use Prim.Native.Nat.{_≤_, _+_, _-_}
 use Rattle.meaning.specs.Base.{allBelow}
 use Rattle.meaning.proofs.Below.{all-none, all-more, all-stop}
 use Rattle.meaning.specs.Book.{digitsAlone, isDigit}
+use Rattle.raw.proofs.Ends.{at-end}
 use borrow.Author.Needs.{needs}
 use Rattle.records.proofs.digits_alone.Statement.{statement}
 use Rattle.records.proofs.digits_alone.Tie as tie
@@ -50,7 +50,7 @@ loop-again c = (omega arith, all-more _ _ (c .before .before .before .before .lo
 
 returns-2 : tie.Need-returns-2 Inv-loop μ-loop
 unfolding digitsAlone
-returns-2 c = let e : c .before .loop .j ≡ c .before .before .before .args .n = omega arith in sym (rw e at (c .before .loop .inv .1))
+returns-2 c = at-end (allBelow _) (c .before .loop .inv .1) (omega arith)
 
 pub digits-alone-spec : {M : Type 1} → statement M
 digits-alone-spec =

@@ -8,6 +8,7 @@ use lib.Dec.{eqb}
 use Rattle.meaning.specs.Base.{allBelow}
 use Rattle.meaning.proofs.Below.{all-none, all-more, all-stop}
 use Rattle.meaning.specs.Book.{newMember, memberSymbol}
+use Rattle.raw.proofs.Ends.{at-end}
 use borrow.Author.Needs.{needs}
 use Rattle.records.proofs.new_member.Statement.{statement}
 use Rattle.records.proofs.new_member.Tie as tie
@@ -42,7 +43,7 @@ loop-again c = let e : _ ≡ memberSymbol (c .before .before .before .before .be
 
 returns-2 : tie.Need-returns-2 Inv-loop μ-loop
 unfolding newMember
-returns-2 c = let e : c .before .loop .e ≡ c .before .before .before .args .i = omega arith in sym (rw e at (c .before .loop .inv .1))
+returns-2 c = at-end (allBelow _) (c .before .loop .inv .1) (omega arith)
 
 pub new-member-spec : {M : Type 1} → statement M
 new-member-spec =

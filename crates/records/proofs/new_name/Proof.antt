@@ -1,13 +1,13 @@
 -- `records::new_name` meets its contract: it goes on while every earlier name is another, and stops at the first that is not.
 use borrow.Author.Tests.{not-true, not-false}
-use mathlib.Core.Bool.{true}
--- `records::new_name` meets its contract: it goes on while every earlier name is another, and stops at the first that is not.
+use mathlib.Core.Bool.{true, false, not}
 use native.Mathlib.Omega.{arith}
 use mathlib.Core.Path.{_≡_, sym}
 use Prim.Native.Nat.{_≤_, _-_}
 use Rattle.meaning.specs.Base.{allBelow}
 use Rattle.meaning.proofs.Below.{all-none, all-more, all-stop}
 use Rattle.meaning.specs.Book.{otherName, newName}
+use Rattle.raw.proofs.Ends.{at-end}
 use borrow.Author.Needs.{needs}
 use Rattle.records.proofs.new_name.Statement.{statement}
 use Rattle.records.proofs.new_name.Tie as tie
@@ -42,7 +42,7 @@ loop-again c = (omega arith, all-more _ _ (c .before .before .before .loop .inv 
 
 returns-2 : tie.Need-returns-2 Inv-loop μ-loop
 unfolding newName
-returns-2 c = let e : c .before .loop .e ≡ c .before .before .before .args .s = omega arith in sym (rw e at (c .before .loop .inv .1))
+returns-2 c = at-end (allBelow _) (c .before .loop .inv .1) (omega arith)
 
 pub new-name-spec : {M : Type 1} → statement M
 new-name-spec =

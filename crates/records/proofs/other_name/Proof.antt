@@ -2,7 +2,6 @@
 use Rattle.meaning.specs.Base.{sameText}
 use mathlib.Core.Bool.{not}
 use mathlib.Core.Path.{_∙_, ap, ap₂}
--- `records::other_name` meets its contract: it compares the two names.
 use Rattle.meaning.specs.Book.{otherName}
 use borrow.Author.Needs.{needs}
 use Rattle.records.proofs.other_name.Statement.{statement}

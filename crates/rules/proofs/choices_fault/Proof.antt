@@ -6,6 +6,7 @@ use Rattle.meaning.specs.Base.{firstBelow}
 use Rattle.meaning.specs.declared.Outcome.the-variants.{Clean}
 use Rattle.meaning.specs.Rules.{choiceFault}
 use Rattle.meaning.proofs.First.{clean-none, clean-more, place-fault}
+use Rattle.raw.proofs.Ends.{at-end}
 use borrow.Author.Needs.{needs}
 use Rattle.rules.proofs.choices_fault.Statement.{statement}
 use Rattle.rules.proofs.choices_fault.Tie as tie
@@ -48,7 +49,7 @@ loop-again : tie.Need-loop-again Inv-loop μ-loop
 loop-again c = (omega arith, clean-more _ _ (c .before .before .before .before .loop .inv .1) (c .before .before .choice-fault .ensures) (c .enum-told2 .given .1))
 
 returns-2 : tie.Need-returns-2 Inv-loop μ-loop
-returns-2 c = let e : c .before .loop .c ≡ c .before .before .choices .result = omega arith in sym (rw (e, c .before .before .choices .ensures .0) at (c .before .loop .inv .1))
+returns-2 c = at-end (firstBelow _) (c .before .loop .inv .1) (omega arith)
 
 pub choices-fault-spec : {M : Type 1} → statement M
 choices-fault-spec =

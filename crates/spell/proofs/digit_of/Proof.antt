@@ -1,3 +1,4 @@
+-- `spell::digit_of` meets its contract: 0 to 9 from the byte 48 on, a to f from 97 on.
 use borrow.Author.Tests.{lt-ltb, le-ltb}
 use borrow.Author.Needs.{needs}
 use Rattle.spell.proofs.digit_of.Statement.{statement}

@@ -1,3 +1,4 @@
+-- `spell::letter_of` meets its contract: n, m, and y for every other number.
 use borrow.Author.Tests.{ne-eqb}
 use Rattle.spell.proofs.letter_of.Statement.{statement}
 use Rattle.spell.proofs.letter_of.Tie as tie

@@ -1,3 +1,4 @@
+-- `spell::size` meets its contract: below zero, all bits turned and one more, else the number itself.
 use Rattle.spell.proofs.Signs.{below, above}
 use mir.ValLaws.{toZ-ofZ}
 use native.Mathlib.Omega.{arith}

@@ -1,3 +1,4 @@
+-- `spell::spell` meets its contract: each turn sets the last digit that is left in front of those so far, and 12 are enough.
 use Rattle.spell.proofs.Laws.{last-digit, next-digit, no-digits}
 use native.Mathlib.Nat.{mod-lt}
 use Rattle.meaning.specs.Spell.{digits}

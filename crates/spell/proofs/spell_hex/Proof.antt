@@ -1,3 +1,4 @@
+-- `spell::spell_hex` meets its contract: the two bytes before the digits are 0 and x.
 use Rattle.spell.proofs.Laws.{fronted-two}
 use native.Mathlib.Omega.{arith}
 use lib.ListN.{length-set}

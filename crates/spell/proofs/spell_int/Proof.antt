@@ -1,3 +1,4 @@
+-- `spell::spell_int` meets its contract: the byte before the digits is a minus sign below zero, and else not part of it.
 use Rattle.spell.proofs.Signs.{int-minus, int-plus}
 use native.Mathlib.Omega.{arith}
 use lib.ListN.{length-set}

@@ -6,6 +6,7 @@ use mathlib.Core.Path.{_≡_, sym}
 use Prim.Native.Nat.{_≤_, _-_}
 use Rattle.meaning.specs.Rules.{test14}
 use Rattle.meaning.proofs.First.{clean-none, clean-more, place-fault}
+use Rattle.raw.proofs.Ends.{at-end}
 use borrow.Author.Needs.{needs}
 use Rattle.symbol_rules.proofs.ranges_fault.Statement.{statement}
 use Rattle.symbol_rules.proofs.ranges_fault.Tie as tie
@@ -48,7 +49,7 @@ loop-again : tie.Need-loop-again Inv-loop μ-loop
 loop-again c = (omega arith, clean-more _ _ (c .before .before .before .before .loop .inv .1) (c .before .before .range-at .ensures) (c .enum-told2 .given .1))
 
 returns-2 : tie.Need-returns-2 Inv-loop μ-loop
-returns-2 c = let e : c .before .loop .r ≡ c .before .before .ranges .result = omega arith in sym (rw (e, c .before .before .ranges .ensures .0) at (c .before .loop .inv .1))
+returns-2 c = at-end (firstBelow _) (c .before .loop .inv .1) (omega arith)
 
 pub ranges-fault-spec : {M : Type 1} → statement M
 ranges-fault-spec =
