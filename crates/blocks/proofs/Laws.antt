@@ -11,17 +11,16 @@ use lib.Dec.{eqb, ltb}
 use lib.IntN.{ℤ}
 use lib.ListN.{length, getD, set, replicate, getD-replicate}
 use lib.Seq.{getD-set-same, getD-set-other}
-use borrow.Author.Tests.{eq-eqb, ne-eqb, eqb-true, eqb-false}
-use Rattle.tri.specs.Three.{triOf, andOf, orOf}
+use borrow.Author.Tests.{ne-eqb, eqb-true, eqb-false}
+use Rattle.tri.specs.Three.{triOf, orOf}
 use Rattle.meaning.specs.declared.Outcome.{Outcome}
 use Rattle.meaning.specs.declared.Outcome.the-variants.{Clean, Fault}
-use Rattle.meaning.specs.declared.Value.{Value}
 use Rattle.meaning.specs.declared.Value.the-variants.{Three, Text, Int, Hex}
-use Rattle.meaning.specs.Base.{pick, fold, word, when, firstBelow, orElse}
-use Rattle.meaning.specs.Book.{selects, defaults, ranges, targetOf, defaultSymbol, defaultValue, selectorOf, rangeSymbol, threeType}
+use Rattle.meaning.specs.Base.{pick, fold, word, when, firstBelow}
+use Rattle.meaning.specs.Book.{selects, defaults, targetOf, defaultSymbol, defaultValue, selectorOf, rangeSymbol, threeType}
 use Rattle.meaning.specs.Table.{Content, aText, entries, kindOf, lengthOf, startOf, signedOf, contentIn, contentOf, readOf, threeIn, valueOf}
 use Rattle.meaning.specs.Values.{val, leafOf, given, conditionValue, lowerStep, lowerFrom, lowerOf, defaultStep, defaultFrom, defaultOf, defaultContent, promptValue}
-use Rattle.meaning.specs.Rules.{broken13Content, threeTests, threeFault, otherFault, test14, symbolFault}
+use Rattle.meaning.specs.Rules.{broken13Content, threeTests, threeFault, otherFault, test14}
 use Rattle.meaning.proofs.First.{all-clean}
 use Rattle.symbol_rules.proofs.Laws.{range-off}
 use Rattle.blocks.specs.Rows.{placeOf, Rows, firstDefault, chosen, Free, Marked}

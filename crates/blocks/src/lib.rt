@@ -4,8 +4,8 @@
 // over the ranges says which have any, one over the defaults finds the first of each that applies.
 ghost use mathlib.Core.Path.{_≡_};
 ghost use mathlib.Core.List.{[]};
-ghost use Prim.Native.Nat.{ℕ, _+_, _%_, _<_, _≤_};
-ghost use lib.Dec.{eqb, ltb};
+ghost use Prim.Native.Nat.{_+_, _%_, _<_, _≤_};
+ghost use lib.Dec.{ltb};
 ghost use Rattle.tri.specs.Three.{orOf};
 ghost use Rattle.meaning.specs.declared.Outcome.the-variants.{Clean};
 ghost use Rattle.meaning.specs.Base.{pick, firstBelow};

@@ -1,5 +1,5 @@
 -- Step by step: what a loop shows of `fold`, and of a room that is filled with `build` or tabulated, at each turn. Assumes nothing.
-use mathlib.Core.Path.{_≡_, refl, _∙_, ap}
+use mathlib.Core.Path.{_≡_, refl, sym, _∙_, ap}
 use mathlib.Core.List.{List, [], _∷_, _++_}
 use Prim.Native.Nat.{ℕ, zero, suc, _+_, _<_}
 use native.Mathlib.Numerals.{add-one}
@@ -15,6 +15,10 @@ module _ {A : Type 0} (step : ℕ → A → A) (none : A) where
   pub fold-more : (k : ℕ) {x y : A} → x ≡ fold step none k → y ≡ step k x → y ≡ fold step none (k + 1)
   unfolding fold
   fold-more k e f = rw add-one (rw e at f)
+
+-- a loop that ran to its end: what it showed of the turns so far is what was asked of all
+pub at-end : {A : Type 0} (f : ℕ → A) {a : A} {i n : ℕ} → f i ≡ a → i ≡ n → a ≡ f n
+at-end f h e = sym h ∙ ap f e
 
 module _ (f : List ℕ → ℕ → ℕ) where
   pub build-length : (n : ℕ) → length (build f n) ≡ n

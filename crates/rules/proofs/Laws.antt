@@ -1,6 +1,5 @@
 -- What the table check owes, from each place where it answers. Assumes nothing.
-use mathlib.Core.Path.{_≡_, refl, sym, _∙_, ap}
-use mathlib.Core.Bool.{Bool, true, false}
+use mathlib.Core.Path.{_≡_, refl, _∙_, ap}
 use mathlib.Core.List.{List, _++_}
 use Prim.Native.Nat.{ℕ, _-_, _≤_, _<_}
 use native.Mathlib.Omega.{arith}
@@ -9,7 +8,7 @@ use lib.Seq.{take-at}
 use borrow.Author.Tests.{lt-ltb, le-ltb}
 use Rattle.meaning.specs.declared.Outcome.{Outcome}
 use Rattle.meaning.specs.declared.Outcome.the-variants.{Clean, Fault}
-use Rattle.meaning.specs.Base.{when, orElse, ifClean}
+use Rattle.meaning.specs.Base.{when}
 use Rattle.meaning.specs.Book.{symbols, nodes, bookFault}
 use Rattle.meaning.specs.Table.{tableFault}
 use Rattle.meaning.specs.Values.{nodeValue, nodeValues}

@@ -1,6 +1,6 @@
 -- Leaves compared by kind and content, and rules 13 and 14 over what was read. Assumes nothing.
 use mathlib.Core.Path.{_≡_, refl, _∙_, ap, ap₂}
-use mathlib.Core.Bool.{Bool, true, false, _&&_, not}
+use mathlib.Core.Bool.{Bool, true, false, _&&_, not, and-false}
 use mathlib.Core.List.{List, _∷_, []}
 use Prim.Native.Nat.{ℕ}
 use native.Mathlib.Omega.{arith}
@@ -25,7 +25,6 @@ use Rattle.spell.specs.declared.Leaf.{Leaf}
 use Rattle.spell.specs.declared.Leaf.the-variants.{Three, Note, Text, Int, Hex}
 use Rattle.spell.specs.Leaves.{leafContent, leafOfValue}
 use Rattle.spell.proofs.Leaf.{the-type}
-use Rattle.raw.proofs.Laws.{and-false}
 use Rattle.values.proofs.Laws.{as-leaf}
 use Rattle.symbol_rules.specs.Leaves.{leafInt, leafHex, leafOrdered, leafWithin}
 

@@ -2,7 +2,7 @@
 //
 // Total over any bytes: `vs` has the nodes' values, and the caller knows a symbol's Default and Lower. A symbol's number is below 2^16.
 ghost use mathlib.Core.Path.{_≡_};
-ghost use Prim.Native.Nat.{ℕ, _<_};
+ghost use Prim.Native.Nat.{_<_};
 ghost use lib.Dec.{leb};
 ghost use lib.Signed.{leZ};
 ghost use Rattle.meaning.specs.declared.Outcome.the-variants.{Fault};

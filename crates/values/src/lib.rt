@@ -4,7 +4,7 @@
 // gives its target by those values, `leaf` what a leaf stands for.
 ghost use mathlib.Core.Path.{_≡_};
 ghost use mathlib.Core.List.{_++_};
-ghost use Prim.Native.Nat.{ℕ, _<_, _≤_, _^_};
+ghost use Prim.Native.Nat.{_<_, _≤_, _^_};
 ghost use lib.ListN.{length, drop};
 ghost use Rattle.tri.specs.Three.{triOf};
 ghost use Rattle.meaning.specs.Book.{nodes as nodesOf};

@@ -12,8 +12,8 @@ use lib.ListN.{length, length-set}
 use lib.Dec.{ltb}
 use Prim.Native.Nat.{suc, _≤_, _+_, _-_}
 use native.Mathlib.Omega.{arith}
-use mathlib.Core.Path.{_≡_, refl, sym, _∙_, ap}
-use Rattle.raw.proofs.Ends.{at-end}
+use mathlib.Core.Path.{_≡_, refl}
+use Rattle.meaning.proofs.Folds.{at-end}
 use borrow.Author.Needs.{needs}
 use Rattle.blocks.proofs.block_fault.Statement.{statement}
 use Rattle.blocks.proofs.block_fault.Tie as tie

@@ -1,7 +1,6 @@
 -- `blocks::default_leaf` meets its contract: the empty text without a default, else its value leaf.
 use Rattle.meaning.specs.Base.{part}
-use borrow.Author.Tests.{eq-eqb, ne-eqb, lt-ltb, le-ltb}
-use mathlib.Core.Path.{_≡_, refl, sym, _∙_, ap}
+use borrow.Author.Tests.{eq-eqb, ne-eqb}
 use borrow.Author.Needs.{needs}
 use Rattle.blocks.proofs.default_leaf.Statement.{statement}
 use Rattle.blocks.proofs.default_leaf.Tie as tie

@@ -1,6 +1,5 @@
 -- `blocks::default_three` meets its contract: n without a default, else its value node's value.
-use borrow.Author.Tests.{eq-eqb, ne-eqb, lt-ltb, le-ltb}
-use mathlib.Core.Path.{_≡_, refl, sym, _∙_, ap}
+use borrow.Author.Tests.{eq-eqb, ne-eqb}
 use borrow.Author.Needs.{needs}
 use Rattle.blocks.proofs.default_three.Statement.{statement}
 use Rattle.blocks.proofs.default_three.Tie as tie

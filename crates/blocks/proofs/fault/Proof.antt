@@ -4,9 +4,8 @@ use Rattle.meaning.proofs.First.{clean-none, block-fault}
 use Rattle.meaning.specs.Rules.{symbolFault}
 use Rattle.meaning.specs.Base.{firstBelow}
 use Rattle.meaning.specs.declared.Outcome.the-variants.{Clean}
-use Prim.Native.Nat.{_≤_, _-_}
 use native.Mathlib.Omega.{arith}
-use mathlib.Core.Path.{_≡_, refl, sym, _∙_, ap}
+use mathlib.Core.Path.{_≡_, sym, _∙_}
 use borrow.Author.Needs.{needs}
 use Rattle.blocks.proofs.fault.Statement.{statement}
 use Rattle.blocks.proofs.fault.Tie as tie

@@ -1,6 +1,5 @@
 -- `blocks::own_fault` meets its contract: Lower is given, and the first default that applies has the Default.
 use Rattle.blocks.proofs.Laws.{own-three, own-other}
-use mathlib.Core.Path.{_≡_, refl, sym, _∙_, ap}
 use borrow.Author.Needs.{needs}
 use Rattle.blocks.proofs.own_fault.Statement.{statement}
 use Rattle.blocks.proofs.own_fault.Tie as tie

@@ -2,7 +2,6 @@
 use Rattle.meaning.proofs.First.{first-fault, first-clean}
 use Rattle.blocks.proofs.Laws.{no-ranges}
 use Rattle.meaning.specs.Rules.{symbolFault}
-use mathlib.Core.Path.{_≡_, refl, sym, _∙_, ap}
 use borrow.Author.Needs.{needs}
 use Rattle.blocks.proofs.symbol_fault.Statement.{statement}
 use Rattle.blocks.proofs.symbol_fault.Tie as tie

@@ -3,10 +3,10 @@ use Rattle.meaning.specs.Book.{choiceMembersFault, memberAt}
 use Rattle.meaning.specs.Base.{firstBelow}
 use Rattle.meaning.specs.declared.Outcome.the-variants.{Clean}
 use native.Mathlib.Omega.{arith}
-use mathlib.Core.Path.{_≡_, sym}
+use mathlib.Core.Path.{_≡_}
 use Prim.Native.Nat.{_≤_, _-_}
 use Rattle.meaning.proofs.First.{clean-none, clean-more, place-fault}
-use Rattle.raw.proofs.Ends.{at-end}
+use Rattle.meaning.proofs.Folds.{at-end}
 use borrow.Author.Needs.{needs}
 use Rattle.book.proofs.choice_members_fault.Statement.{statement}
 use Rattle.book.proofs.choice_members_fault.Tie as tie

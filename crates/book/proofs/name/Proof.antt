@@ -1,10 +1,7 @@
 -- `book::name` meets its contract: nothing for a bad book and for no symbol, else the part that spells the name.
 use native.Mathlib.Omega.{arith}
 use Rattle.book.proofs.Laws.{name-bad, name-past, name-is}
-use borrow.Author.Tests.{lt-ltb, le-ltb}
-use mathlib.Core.Path.{_≡_, refl, sym, _∙_, ap}
-use Rattle.meaning.specs.Base.{part, ifClean}
-use Rattle.meaning.specs.Book.{nameOf}
+use Rattle.meaning.specs.Base.{part}
 use borrow.Author.Needs.{needs}
 use Rattle.book.proofs.name.Statement.{statement}
 use Rattle.book.proofs.name.Tie as tie

@@ -5,8 +5,8 @@ use Rattle.meaning.specs.Base.{firstBelow}
 use Rattle.meaning.specs.declared.Outcome.the-variants.{Clean}
 use Prim.Native.Nat.{_≤_, _-_}
 use native.Mathlib.Omega.{arith}
-use mathlib.Core.Path.{_≡_, sym, refl, _∙_, ap}
-use Rattle.raw.proofs.Ends.{at-end}
+use mathlib.Core.Path.{_≡_}
+use Rattle.meaning.proofs.Folds.{at-end}
 use borrow.Author.Needs.{needs}
 use Rattle.book.proofs.section_fault.Statement.{statement}
 use Rattle.book.proofs.section_fault.Tie as tie

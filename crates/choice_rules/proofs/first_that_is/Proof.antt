@@ -1,13 +1,12 @@
 -- `choice_rules::first_that_is` meets its contract: it goes on while no member so far passes, and stops at the first that does.
-use Rattle.meaning.specs.Book.{memberCount}
-use lib.Dec.{eqb, leb, ltb}
-use Prim.Native.Nat.{_≤_, _-_, _+_, _<_}
+use lib.Dec.{eqb}
+use Prim.Native.Nat.{_≤_, _-_}
 use native.Mathlib.Omega.{arith}
-use mathlib.Core.Path.{_≡_, sym, _∙_, ap}
+use mathlib.Core.Path.{_≡_, _∙_}
 use Rattle.meaning.specs.Base.{firstWhere}
 use Rattle.meaning.proofs.Below.{first-none, first-more, first-hit}
 use Rattle.meaning.specs.Rules.{memberValue}
-use Rattle.raw.proofs.Ends.{at-end}
+use Rattle.meaning.proofs.Folds.{at-end}
 use borrow.Author.Needs.{needs}
 use Rattle.choice_rules.proofs.first_that_is.Statement.{statement}
 use Rattle.choice_rules.proofs.first_that_is.Tie as tie

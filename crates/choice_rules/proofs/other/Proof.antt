@@ -2,13 +2,13 @@
 use lib.Dec.{eqb, ltb}
 use Prim.Native.Nat.{_≤_, _-_}
 use native.Mathlib.Omega.{arith}
-use mathlib.Core.Path.{_≡_, sym, _∙_, ap}
+use mathlib.Core.Path.{_≡_, _∙_}
 use mathlib.Core.Bool.{_&&_, not}
 use Rattle.meaning.specs.Base.{firstWhere}
 use Rattle.meaning.proofs.Below.{first-none, first-more, first-hit}
 use Rattle.meaning.specs.Rules.{memberValue, firstYes, otherOf}
 use Rattle.meaning.specs.Book.{memberCount}
-use Rattle.raw.proofs.Ends.{at-end}
+use Rattle.meaning.proofs.Folds.{at-end}
 use borrow.Author.Needs.{needs}
 use Rattle.choice_rules.proofs.other.Statement.{statement}
 use Rattle.choice_rules.proofs.other.Tie as tie

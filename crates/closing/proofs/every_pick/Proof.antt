@@ -1,5 +1,5 @@
-use borrow.Author.Tests.{not-true, not-false}
 -- `closing::every_pick` meets its contract: each loop has passed every pick so far, and leaves at the first that is not broken.
+use borrow.Author.Tests.{not-true, not-false}
 use Rattle.closing.proofs.Laws.{till, till-none, till-more, till-skip, till-all, till-stop, on1, on2, on3, on4, picked-all, picked-stop}
 use mathlib.Core.Logic.{⊎-elim}
 use mathlib.Core.Bool.{true}

@@ -1,5 +1,5 @@
-use borrow.Author.Tests.{not-true, not-false}
 -- `closing::every_prompt` meets its contract: each turn has passed every pick so far.
+use borrow.Author.Tests.{not-true, not-false}
 use Rattle.closing.proofs.Laws.{till, till-none, till-more, till-skip, till-all, till-stop}
 use mathlib.Core.Logic.{⊎-elim}
 use mathlib.Core.Bool.{true, _&&_}

@@ -1,6 +1,5 @@
 -- `findings::check` meets its contract: each refusal leaves both rooms, and past them the body decides and both are zero in front.
 use Rattle.findings.proofs.Checks.{head-lengths, refused-book, refused-head, refused-nodes, refused-symbols, answered, in-front, front-length}
--- `findings::check` meets its contract: each refusal leaves both rooms, and past them the body decides and both are zero in front.
 use borrow.Author.Needs.{needs}
 use Rattle.findings.proofs.check.Statement.{statement}
 use Rattle.findings.proofs.check.Tie as tie

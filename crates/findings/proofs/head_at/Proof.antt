@@ -2,7 +2,6 @@
 use Prim.Native.Nat.{_+_}
 use lib.ListN.{length}
 use lib.Dec.{eqb, leb}
--- `findings::head_at` meets its contract: a leaf, a split, or neither.
 use Rattle.findings.proofs.Heads.{head-leaf, head-split, head-bad, leaf-stands-in, split-stands-in}
 use borrow.Author.Tests.{leb-true}
 use mathlib.Mathlib.Data.Bool.Basic.{and-elim-right}

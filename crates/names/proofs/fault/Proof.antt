@@ -5,8 +5,8 @@ use Rattle.meaning.specs.Base.{firstBelow}
 use Rattle.meaning.specs.declared.Outcome.the-variants.{Clean}
 use Prim.Native.Nat.{_≤_, _-_}
 use native.Mathlib.Omega.{arith}
-use mathlib.Core.Path.{_≡_, sym, _∙_, refl, ap}
-use Rattle.raw.proofs.Ends.{at-end}
+use mathlib.Core.Path.{_≡_, sym, _∙_}
+use Rattle.meaning.proofs.Folds.{at-end}
 use borrow.Author.Needs.{needs}
 use Rattle.names.proofs.fault.Statement.{statement}
 use Rattle.names.proofs.fault.Tie as tie

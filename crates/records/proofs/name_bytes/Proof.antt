@@ -1,14 +1,14 @@
 -- `records::name_bytes` meets its contract: it goes on while every byte so far passes, and stops at the first that does not.
 use borrow.Author.Tests.{not-true, not-false}
-use mathlib.Core.Bool.{true, false, not}
+use mathlib.Core.Bool.{true}
 use native.Mathlib.Omega.{arith}
-use mathlib.Core.Path.{_≡_, sym}
+use mathlib.Core.Path.{_≡_}
 use lib.ListN.{getD}
 use Prim.Native.Nat.{_≤_, _+_, _-_}
 use Rattle.meaning.specs.Base.{allBelow}
 use Rattle.meaning.proofs.Below.{all-none, all-more, all-stop}
 use Rattle.meaning.specs.Book.{nameBytes, isNameByte}
-use Rattle.raw.proofs.Ends.{at-end}
+use Rattle.meaning.proofs.Folds.{at-end}
 use borrow.Author.Needs.{needs}
 use Rattle.records.proofs.name_bytes.Statement.{statement}
 use Rattle.records.proofs.name_bytes.Tie as tie

@@ -1,6 +1,6 @@
 -- `records::new_member` meets its contract: it goes on while every earlier member is another, and stops at the first that is not.
 use native.Mathlib.Omega.{arith}
-use mathlib.Core.Path.{_≡_, sym}
+use mathlib.Core.Path.{_≡_}
 use borrow.Author.Tests.{not-true, not-false}
 use mathlib.Core.Bool.{true, not}
 use Prim.Native.Nat.{_≤_, _-_}
@@ -8,7 +8,7 @@ use lib.Dec.{eqb}
 use Rattle.meaning.specs.Base.{allBelow}
 use Rattle.meaning.proofs.Below.{all-none, all-more, all-stop}
 use Rattle.meaning.specs.Book.{newMember, memberSymbol}
-use Rattle.raw.proofs.Ends.{at-end}
+use Rattle.meaning.proofs.Folds.{at-end}
 use borrow.Author.Needs.{needs}
 use Rattle.records.proofs.new_member.Statement.{statement}
 use Rattle.records.proofs.new_member.Tie as tie

@@ -1,13 +1,13 @@
 -- `records::new_name` meets its contract: it goes on while every earlier name is another, and stops at the first that is not.
 use borrow.Author.Tests.{not-true, not-false}
-use mathlib.Core.Bool.{true, false, not}
+use mathlib.Core.Bool.{true}
 use native.Mathlib.Omega.{arith}
-use mathlib.Core.Path.{_≡_, sym}
+use mathlib.Core.Path.{_≡_}
 use Prim.Native.Nat.{_≤_, _-_}
 use Rattle.meaning.specs.Base.{allBelow}
 use Rattle.meaning.proofs.Below.{all-none, all-more, all-stop}
 use Rattle.meaning.specs.Book.{otherName, newName}
-use Rattle.raw.proofs.Ends.{at-end}
+use Rattle.meaning.proofs.Folds.{at-end}
 use borrow.Author.Needs.{needs}
 use Rattle.records.proofs.new_name.Statement.{statement}
 use Rattle.records.proofs.new_name.Tie as tie

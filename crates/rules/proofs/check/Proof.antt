@@ -1,6 +1,6 @@
 -- `rules::check` meets its contract: each refusal leaves the node work, and past them it holds the values that the rules read.
 use native.Mathlib.Omega.{arith}
-use mathlib.Core.Path.{_≡_, refl, sym, _∙_, ap}
+use mathlib.Core.Path.{refl}
 use Rattle.rules.proofs.Laws.{refused-book, refused-table, refused-room, answered}
 use borrow.Author.Needs.{needs}
 use Rattle.rules.proofs.check.Statement.{statement}

@@ -1,12 +1,12 @@
 -- `rules::modules_fault` meets its contract: it goes on while no symbol is m without modules, and stops at the first that is.
 use native.Mathlib.Omega.{arith}
-use mathlib.Core.Path.{_≡_, refl, sym, _∙_, ap}
+use mathlib.Core.Path.{_≡_}
 use Prim.Native.Nat.{_≤_, _-_}
 use Rattle.meaning.specs.Base.{firstBelow}
 use Rattle.meaning.specs.declared.Outcome.the-variants.{Clean}
 use Rattle.meaning.specs.Rules.{test18}
 use Rattle.meaning.proofs.First.{clean-none, clean-more, place-fault}
-use Rattle.raw.proofs.Ends.{at-end}
+use Rattle.meaning.proofs.Folds.{at-end}
 use borrow.Author.Needs.{needs}
 use Rattle.rules.proofs.modules_fault.Statement.{statement}
 use Rattle.rules.proofs.modules_fault.Tie as tie

@@ -1,12 +1,12 @@
 -- `rules::types_fault` meets its contract: it goes on while every entry fits its type, and stops at the first that does not.
 use native.Mathlib.Omega.{arith}
-use mathlib.Core.Path.{_≡_, refl, sym, _∙_, ap}
+use mathlib.Core.Path.{_≡_}
 use Prim.Native.Nat.{_≤_, _-_}
 use Rattle.meaning.specs.Base.{firstBelow}
 use Rattle.meaning.specs.declared.Outcome.the-variants.{Clean}
 use Rattle.meaning.specs.Rules.{test10}
 use Rattle.meaning.proofs.First.{clean-none, clean-more, place-fault}
-use Rattle.raw.proofs.Ends.{at-end}
+use Rattle.meaning.proofs.Folds.{at-end}
 use borrow.Author.Needs.{needs}
 use Rattle.rules.proofs.types_fault.Statement.{statement}
 use Rattle.rules.proofs.types_fault.Tie as tie

@@ -1,6 +1,5 @@
 -- `sets::node_among` meets its contract: what is kept is the set itself, operands come before their node, and working out more changes nothing.
 use Rattle.sets.proofs.Nodes.{among-past, node-leaf, node-inner, node-equal, read-known, settled, kept}
-use Rattle.sets.proofs.Nodes.{among-past, node-leaf, node-inner, node-equal}
 use Rattle.sets.specs.Work.{Known}
 use mathlib.Core.Logic.{⊎-elim}
 use lib.ListN.{length}

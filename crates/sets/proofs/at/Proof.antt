@@ -1,8 +1,6 @@
 -- `sets::at` meets its contract: past the end a list reads its default.
 use lib.ListN.{List·getD-eq-default}
 use Rattle.sets.proofs.Laws.{getD-other}
--- `sets::at` meets its contract: past the end a list reads its default.
-use Rattle.sets.proofs.Laws.{getD-other}
 use mathlib.Core.Path.{sym}
 use borrow.Author.Needs.{needs}
 use Rattle.sets.proofs.at.Statement.{statement}

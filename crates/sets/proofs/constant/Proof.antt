@@ -1,6 +1,5 @@
 -- `sets::constant` meets its contract: what is above 1 is read as y.
 use Rattle.sets.proofs.Laws.{constant-yes}
--- `sets::constant` meets its contract: what is above 1 is read as y.
 use Rattle.meaning.specs.Sets.{only}
 use Rattle.sets.proofs.constant.Statement.{statement}
 use Rattle.sets.proofs.constant.Tie as tie

@@ -1,6 +1,5 @@
 -- `spell::same_as` meets its contract: each kind of leaf is spelled, and the spelling compared.
-use Rattle.spell.proofs.Laws.{rest-of, on-right, on-left}
-use Rattle.meaning.specs.Base.{sameText}
+use Rattle.spell.proofs.Laws.{rest-of, on-right}
 use Rattle.meaning.specs.Spell.{spelledInt}
 use Rattle.spell.specs.Leaves.{spelledLeaf}
 use mir.ValLaws.{toZ-ofZ}

@@ -1,6 +1,5 @@
 -- `spell::same_spelling` meets its contract: each kind of leaf is spelled, and compared with the other.
-use Rattle.spell.proofs.Laws.{rest-of, on-left, on-right}
-use Rattle.meaning.specs.Base.{sameText}
+use Rattle.spell.proofs.Laws.{rest-of, on-left}
 use Rattle.meaning.specs.Spell.{spelledInt}
 use Rattle.spell.specs.Leaves.{spelledLeaf}
 use mathlib.Core.List.{_∷_, []}

@@ -1,5 +1,5 @@
 -- `values::equal` meets its contract: y where the two are spelled alike.
-use mathlib.Core.Path.{_≡_, refl, sym, _∙_, ap}
+use mathlib.Core.Path.{refl}
 use Rattle.values.proofs.Laws.{equal-is}
 use borrow.Author.Needs.{needs}
 use Rattle.values.proofs.equal.Statement.{statement}

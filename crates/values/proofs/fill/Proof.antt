@@ -4,7 +4,7 @@ use lib.Seq.{length-take-le}
 use lib.ListN.{length, drop, length-set}
 use Prim.Native.Nat.{_≤_, _-_}
 use native.Mathlib.Omega.{arith}
-use mathlib.Core.Path.{_≡_, refl, sym, _∙_, ap}
+use mathlib.Core.Path.{_≡_, refl, sym}
 use Rattle.meaning.proofs.Folds.{build-none, build-more}
 use Rattle.meaning.specs.Base.{build}
 use Rattle.meaning.specs.Book.{nodes}

@@ -1,5 +1,5 @@
 -- `values::given` meets its contract: it is the smaller of the two.
-use mathlib.Core.Path.{_≡_, refl, sym, _∙_, ap}
+use mathlib.Core.Path.{_∙_}
 use borrow.Author.Needs.{needs}
 use Rattle.values.proofs.given.Statement.{statement}
 use Rattle.values.proofs.given.Tie as tie

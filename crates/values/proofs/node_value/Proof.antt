@@ -1,7 +1,6 @@
 -- `values::node_value` meets its contract: one decision over the op, with the leaves as a range.
 use native.Mathlib.Nat.{le-of-suc-le-suc}
-use native.Mathlib.Omega.{arith}
-use mathlib.Core.Path.{_≡_, refl, sym, _∙_, ap}
+use mathlib.Core.Path.{refl}
 use Rattle.values.proofs.Laws.{node-leaf, node-not, node-and, node-or, node-equal, node-unlike, node-none}
 use borrow.Author.Needs.{needs}
 use Rattle.values.proofs.node_value.Statement.{statement}
