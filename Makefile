@@ -51,8 +51,8 @@ afl: lib
 cases:
 	tests/cases.sh
 
+# build/cargo/release/second, the second program.
 second:
-	@mkdir -p build
 	@CARGO_TARGET_DIR=build/cargo cargo build --offline --release --quiet --manifest-path tests/second/Cargo.toml
 
 clean:

@@ -82,6 +82,15 @@ pub const GROWTH: [usize; 4] = [8192, 16384, 32768, FULL];
 /// The booleans of a complete clearance.
 const BOOLEANS: u16 = 13;
 
+/// The first nodes of a book: n, y, and one for each symbol.
+fn leaves(symbols: u16) -> Sketch {
+    let mut sketch = Sketch::default();
+    sketch.node(0, 0, 0);
+    sketch.node(0, 2, 0);
+    (0..symbols).for_each(|symbol| _ = sketch.node(1, symbol, 0));
+    sketch
+}
+
 /// A book of 13 booleans in which each selects the next, half of them without a
 /// prompt. The target of select 0 depends on nothing, so its complete
 /// clearance is accepted.
@@ -97,12 +106,25 @@ pub fn boolean_book() -> Sketch {
     sketch
 }
 
-/// The first nodes of a book: n, y, and one for each symbol.
-fn leaves(symbols: u16) -> Sketch {
-    let mut sketch = Sketch::default();
-    sketch.node(0, 0, 0);
-    sketch.node(0, 2, 0);
-    (0..symbols).for_each(|symbol| _ = sketch.node(1, symbol, 0));
+/// The same book filled with nodes, selects and defaults up to 65,535 bytes.
+pub fn full_boolean_book() -> Sketch {
+    let mut sketch = boolean_book();
+    for record in 0..1900 {
+        let (one, other) = (record % BOOLEANS, record / BOOLEANS % BOOLEANS);
+        let from = one.min(other);
+        sketch.selects.push([from, (from + 1).min(BOOLEANS - 1), 2 + other]);
+        sketch.defaults.push([one, record % 2, 2 + other]);
+    }
+    while sketch.bytes().len() + 6 <= FULL {
+        let index = sketch.nodes.len() as u16;
+        match index % 4 {
+            0 => sketch.node(5, index - 1, 0),
+            1 => sketch.node(6, index - 1, 2 + index % BOOLEANS),
+            2 => sketch.node(7, index - 2, index - 7),
+            _ => sketch.node(8, 2 + index % BOOLEANS, 2 + index / BOOLEANS % BOOLEANS),
+        };
+    }
+    sketch.texts.resize(sketch.texts.len() + FULL - sketch.bytes().len(), b'.');
     sketch
 }
 
@@ -174,27 +196,5 @@ pub fn chain_book() -> Sketch {
         sketch.selects.push([symbol - 1, symbol, last - symbol * 3]);
         sketch.defaults.push([symbol, 1, last - symbol]);
     }
-    sketch
-}
-
-/// The same book with nodes, selects and defaults up to 65,535 bytes.
-pub fn full_boolean_book() -> Sketch {
-    let mut sketch = boolean_book();
-    for record in 0..1900 {
-        let (one, other) = (record % BOOLEANS, record / BOOLEANS % BOOLEANS);
-        let from = one.min(other);
-        sketch.selects.push([from, (from + 1).min(BOOLEANS - 1), 2 + other]);
-        sketch.defaults.push([one, record % 2, 2 + other]);
-    }
-    while sketch.bytes().len() + 6 <= FULL {
-        let index = sketch.nodes.len() as u16;
-        match index % 4 {
-            0 => sketch.node(5, index - 1, 0),
-            1 => sketch.node(6, index - 1, 2 + index % BOOLEANS),
-            2 => sketch.node(7, index - 2, index - 7),
-            _ => sketch.node(8, 2 + index % BOOLEANS, 2 + index / 13 % BOOLEANS),
-        };
-    }
-    sketch.texts.resize(sketch.texts.len() + FULL - sketch.bytes().len(), b'.');
     sketch
 }

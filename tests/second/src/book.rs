@@ -4,7 +4,7 @@ use crate::Answer;
 use std::collections::HashSet;
 
 /// The fewest bytes of a book: two numbers and eight contents entries.
-const HEAD: usize = 36;
+pub const HEAD: usize = 36;
 
 /// The bytes of one record of each section.
 pub const WIDTH: [usize; 8] = [8, 6, 6, 6, 8, 8, 2, 1];

@@ -119,7 +119,7 @@ pub fn hex(bytes: &[u8]) -> String {
 }
 
 /// The words for the kinds, in their order.
-const KINDS: [&str; 4] = ["table", "finding", "name", "program"];
+pub const KINDS: [&str; 4] = ["table", "finding", "name", "program"];
 
 /// For each kind, how many cases drew each answer. A name call counts as
 /// "named" or "empty".

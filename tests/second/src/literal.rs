@@ -161,11 +161,6 @@ pub fn words(entry: Entry) -> Vec<u8> {
     }
 }
 
-/// Whether a table is valid by the literal statement of the rules.
-pub fn valid_literally(book: &Book, entries: &[Entry]) -> bool {
-    Literal { book, entries }.valid()
-}
-
 /// The check's own answer to the same entries.
 pub fn valid_by_search(book: &Book, entries: &[Entry]) -> bool {
     let mut nodes = vec![0; book.nodes.len()];

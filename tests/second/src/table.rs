@@ -12,13 +12,6 @@ pub enum Entry<'a> {
     Hex(u32),
 }
 
-impl Entry<'_> {
-    /// Whether the entry is the empty string.
-    pub fn is_empty(&self) -> bool {
-        matches!(self, Entry::Text(text) if text.is_empty())
-    }
-}
-
 /// Reads every entry of a table, or gives the answer 5 or 6 that refuses it.
 pub fn read<'a>(book: &Book, table: &'a [u8]) -> Result<Vec<Entry<'a>>, Answer> {
     let refused = Answer::at(5, 0);

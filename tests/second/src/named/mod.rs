@@ -45,7 +45,8 @@ impl Named {
     }
 }
 
-/// A case of the table check on bytes, with room for so many nodes.
+/// A case of the table check on bytes, with room for the nodes that the model
+/// states.
 pub fn table_bytes(name: &str, model: &[u8], table: &[u8], expected: &str) -> Named {
     let nodes = node_count(model);
     Named {
