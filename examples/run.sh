@@ -5,11 +5,7 @@ set -eu
 cd "$(dirname "$0")/.."
 . tests/host/archive.sh
 for file in examples/*.hex; do examples/bytes.sh "$file" > "$out/$(basename "$file" .hex)"; done
-# The host calls the finding check; where the archive has none yet, nothing stands in its place.
-missing=
-[ -n "$findings" ] || missing=-Wl,--defsym=plaitcrumb_check_finding=0
-# shellcheck disable=SC2086
-gcc -std=c99 -O2 -Wall -Wextra -Wpedantic -Werror "$@" -Iinclude examples/host.c "$lib" $missing -o "$out/example-host"
+gcc -std=c99 -O2 -Wall -Wextra -Wpedantic -Werror "$@" -Iinclude examples/host.c "$lib" -o "$out/example-host"
 
 # show WHAT DUE MODEL TABLE [FINDING]: the last line is the one that is due.
 show() {
@@ -38,10 +34,6 @@ cat <<'END'
 2. Can the select override an unmet dependency? In the released table it does: TICK is y, the RTC that it depends on is n.
    A check of tables alone does not see that. The same table as a witness against select 0 shows it:
 END
-if [ -z "$findings" ]; then
-    echo "   findings are NOT shown: the archive has no finding check yet"
-    exit 0
-fi
 show "a witness that the select is unmet" "0 65535 65535 -" clock clock-all-n clock-witness
 show "a clearance that it never is, refused" "23 4 65535 -" clock clock-all-n free-clearance
 cat <<'END'

@@ -1,12 +1,13 @@
 //! The time of the archive beside that of the second program, both built for
 //! release, in one run, as one table in Markdown: large tables that keep every
-//! rule, so that the whole check runs; the growth with the length; and the
-//! largest clearances.
+//! rule, so that the whole check runs; the name call; the growth with the
+//! length; complete clearances; and a witness.
 
 mod shapes;
 
-use differential::archive::{self, FINDINGS, NO_FINDINGS};
+use differential::archive;
 use differential::big::Big;
+use second::named::{NODE_FILL, SYMBOL_FILL};
 use second::Answer;
 use shapes::{
     boolean_book, chain_book, choice_book, equality_book, full_boolean_book, tristate_book, GROWTH,
@@ -69,7 +70,7 @@ fn median(mut values: Vec<f64>) -> f64 {
 
 /// Times the table check on a book; both sides must answer 0.
 fn table(model: &[u8], table: &[u8], nodes: usize) -> Times {
-    let (mut ours, mut theirs) = (vec![0xee; nodes], vec![0xee; nodes]);
+    let (mut ours, mut theirs) = (vec![NODE_FILL; nodes], vec![NODE_FILL; nodes]);
     assert_eq!(archive::check_table(model, table, &mut ours), Answer::KEPT);
     assert_eq!(second::check_table(model, table, &mut theirs), Answer::KEPT);
     assert_eq!(ours, theirs);
@@ -81,10 +82,10 @@ fn table(model: &[u8], table: &[u8], nodes: usize) -> Times {
 
 /// Times the finding check; both sides must give this answer.
 fn finding(model: &[u8], finding: &[u8], nodes: usize, symbols: usize, answer: Answer) -> Times {
-    let (mut ours, mut theirs) = (vec![0xee; nodes], vec![0xee; nodes]);
-    let (mut our_marks, mut their_marks) = (vec![0xdd; symbols], vec![0xdd; symbols]);
+    let (mut ours, mut theirs) = (vec![NODE_FILL; nodes], vec![NODE_FILL; nodes]);
+    let (mut our_marks, mut their_marks) = (vec![SYMBOL_FILL; symbols], vec![SYMBOL_FILL; symbols]);
     let given = archive::check_finding(model, finding, &mut ours, &mut our_marks);
-    assert_eq!(given, Some(answer));
+    assert_eq!(given, answer);
     let judged = second::check_finding(model, finding, &mut theirs, &mut their_marks);
     assert_eq!(judged, answer);
     Times::of(
@@ -147,10 +148,6 @@ fn tables() {
 /// The complete clearance of each book made for it, and a witness on the usual
 /// book: its table keeps every rule, and select 0 is met in it.
 fn findings() {
-    if !FINDINGS {
-        println!("\n{NO_FINDINGS}");
-        return;
-    }
     let books = [
         ("13 booleans", boolean_book()),
         ("13 booleans, full book", full_boolean_book()),

@@ -1,39 +1,18 @@
-//! Links the archive, and says whether it has the finding check.
+//! Links the archive. One that lacks a function fails to link.
 
 use std::env;
-use std::path::{Path, PathBuf};
-use std::process::Command;
-
-/// Where the archive is: PLAITCRUMB_LIB, a relative path counting from the
-/// root of the repository, or else build/libplaitcrumb.a.
-fn archive() -> PathBuf {
-    let crate_dir = env::var("CARGO_MANIFEST_DIR").expect("cargo names the crate's folder");
-    let root = Path::new(&crate_dir).join("../..");
-    root.join(env::var("PLAITCRUMB_LIB").unwrap_or_else(|_| "build/libplaitcrumb.a".into()))
-}
-
-/// Whether the archive exports a function.
-fn exports(archive: &Path, function: &str) -> bool {
-    let listed = Command::new("nm").arg(archive).output().expect("nm can be run");
-    let text = String::from_utf8_lossy(&listed.stdout).into_owned();
-    let line = format!(" T {function}");
-    text.lines().any(|found| found.ends_with(&line))
-}
+use std::path::Path;
 
 fn main() {
     println!("cargo:rerun-if-env-changed=PLAITCRUMB_LIB");
-    println!("cargo:rustc-check-cfg=cfg(plaitcrumb_findings)");
-    let archive = archive();
+    // A relative path counts from the root of the repository.
+    let crate_dir = env::var("CARGO_MANIFEST_DIR").expect("cargo names the crate's folder");
+    let lib = env::var("PLAITCRUMB_LIB").unwrap_or_else(|_| "build/libplaitcrumb.a".into());
+    let archive = Path::new(&crate_dir).join("../..").join(lib);
     println!("cargo:rerun-if-changed={}", archive.display());
-    if !exports(&archive, "plaitcrumb_check_table") {
-        panic!("no archive with plaitcrumb_check_table at {}", archive.display());
-    }
-    if exports(&archive, "plaitcrumb_check_finding") {
-        println!("cargo:rustc-cfg=plaitcrumb_findings");
-    }
-    let (Some(folder), Some(file)) = (archive.parent(), archive.file_name()) else {
-        panic!("{} is no file", archive.display());
-    };
+    assert!(archive.is_file(), "no archive at {}", archive.display());
+    let folder = archive.parent().expect("a file stands in a folder");
+    let file = archive.file_name().expect("a file has a name");
     println!("cargo:rustc-link-search=native={}", folder.display());
     println!("cargo:rustc-link-lib=static:+verbatim={}", file.to_string_lossy());
 }

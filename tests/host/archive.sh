@@ -1,13 +1,13 @@
 # shellcheck shell=sh disable=SC2034
 # For the scripts that link the archive; they stand in the root of the repository when they read this.
-# lib: the archive (PLAITCRUMB_LIB, or build/libplaitcrumb.a). findings: the macro, where it has the finding check.
-# out: where programs are built (PLAITCRUMB_OUT, or build/tests).
+# lib: the archive (PLAITCRUMB_LIB, or build/libplaitcrumb.a). It must have all three functions.
+# out: where programs are built.
 lib=${PLAITCRUMB_LIB:-build/libplaitcrumb.a}
-out=${PLAITCRUMB_OUT:-build/tests}
-if ! nm "$lib" 2>/dev/null | grep -q ' T plaitcrumb_check_table$'; then
-    echo "no archive with plaitcrumb_check_table at $lib" >&2
-    exit 2
-fi
-findings=
-if nm "$lib" | grep -q ' T plaitcrumb_check_finding$'; then findings=-DPLAITCRUMB_FINDINGS; fi
+out=build/tests
+for export in plaitcrumb_check_finding plaitcrumb_check_table plaitcrumb_name; do
+    if ! nm "$lib" 2>/dev/null | grep -q " T $export\$"; then
+        echo "no archive with $export at $lib" >&2
+        exit 2
+    fi
+done
 mkdir -p "$out"

@@ -13,14 +13,6 @@
 #include <sys/mman.h>
 #include <unistd.h>
 
-#ifdef PLAITCRUMB_FINDINGS
-enum { FINDINGS = 1 };
-#else
-enum { FINDINGS = 0 };
-#define plaitcrumb_check_finding(m, ml, f, fl, n, nl, s, sl) \
-    ((void)(m), (void)(ml), (void)(f), (void)(fl), (void)(n), (void)(nl), (void)(s), (void)(sl), (uint64_t)0)
-#endif
-
 enum place { EXACT, BEFORE_GUARD, AFTER_GUARD, PLACES };
 enum slot { MODEL, BYTES, NODES, SYMBOLS, SLOTS };
 enum { ARENA = 36 * 4096, MARGIN = 64, UNTOUCHED = 0x5a, ROOM = 70000 };
@@ -30,6 +22,7 @@ static uint8_t *arena[SLOTS];
 static long checks, failed;
 static const char *current = "";
 
+/* Counts a failure, and shows the first 20. */
 static void fail(const char *format, ...) {
     va_list list;
     failed++;
@@ -60,6 +53,15 @@ static void make_arenas(void) {
         }
         arena[slot] = map + page;
     }
+}
+
+/* A clearance of select 0: one leaf with the mark 20. */
+static const uint8_t LEAF[8] = {0, 0, 1, 0, 1, 20, 0, 0};
+
+/* W with one byte changed. */
+static void changed_w(uint8_t *model, size_t at, unsigned to) {
+    memcpy(model, W, sizeof W);
+    model[at] = (uint8_t)to;
 }
 
 /* What a room holds when it is lent. */
@@ -141,6 +143,7 @@ static void run(const struct call *c, enum place place, struct seen *seen) {
     take_back(SYMBOLS, place, symbols, c->symbol_len);
 }
 
+/* Whether an answer leaves the rooms as they were. */
 static int refused(const struct call *c, unsigned answer) {
     return (answer >= 1 && answer <= 4) || answer == 7 || answer == 8 || answer == 21 ||
            (!c->finding && (answer == 5 || answer == 6));
@@ -168,8 +171,6 @@ static void expect(const char *name, const struct call *c, unsigned answer, unsi
     static struct seen seen;
     size_t nodes = plaitcrumb_nodes(c->model, c->model_len), symbols = plaitcrumb_symbols(c->model, c->model_len);
     current = name;
-    if (c->finding && !FINDINGS)
-        return;
     for (int at = 0; at < PLACES; at++) {
         run(c, (enum place)at, &seen);
         if (plaitcrumb_answer(seen.result) != answer || plaitcrumb_place(seen.result) != place ||
@@ -182,6 +183,7 @@ static void expect(const char *name, const struct call *c, unsigned answer, unsi
     }
 }
 
+/* A table check and a finding check with rooms of these lengths. */
 static struct call table_call(const uint8_t *model, size_t model_len, const uint8_t *table, size_t table_len, size_t room) {
     struct call c = {0, model, model_len, table, table_len, room, 0};
     return c;
@@ -241,20 +243,17 @@ static void worked_tables(void) {
 
 /* P6 to P10, with every mixture of short, exact and longer rooms. */
 static void worked_findings(void) {
-    static const uint8_t leaf[8] = {0, 0, 1, 0, 1, 20, 0, 0};
     static const uint8_t split[15] = {0, 0, 1, 0, 0, 2, 0, 1, 20, 0, 0, 1, 20, 0, 0};
     uint8_t free_tick[sizeof W], narrow[sizeof W], p6[4 + W_TABLE] = {0}, p7[4 + W_TABLE] = {0};
-    memcpy(free_tick, W, sizeof W);
-    free_tick[W_TICK_DEPENDENCY] = 1;
-    memcpy(narrow, W, sizeof W);
-    narrow[W_SELECT_CONDITION] = 2;
+    changed_w(free_tick, W_TICK_DEPENDENCY, 1);
+    changed_w(narrow, W_SELECT_CONDITION, 2);
     w_table(p6 + 4, 2, 2, 0);
     w_table(p7 + 4, 2, 2, 2);
     const struct { const char *name; const uint8_t *model, *finding; size_t len; unsigned answer, place; } cases[5] = {
         {"P6", W, p6, sizeof p6, 0, NONE},
         {"P7", W, p7, sizeof p7, 24, 0},
-        {"P8", W, leaf, sizeof leaf, 23, 4},
-        {"P9", free_tick, leaf, sizeof leaf, 0, NONE},
+        {"P8", W, LEAF, sizeof LEAF, 23, 4},
+        {"P9", free_tick, LEAF, sizeof LEAF, 0, NONE},
         {"P10", narrow, split, sizeof split, 0, NONE},
     };
     for (int i = 0; i < 5; i++)
@@ -341,13 +340,12 @@ static void bad_models(void) {
     w_table(table, 2, 2, 0);
     for (size_t i = 0; i < sizeof cases / sizeof *cases; i++) {
         uint8_t model[sizeof W];
-        memcpy(model, W, sizeof W);
-        model[cases[i].at] = (uint8_t)cases[i].to;
+        changed_w(model, cases[i].at, cases[i].to);
         if (cases[i].at == 2)
             model[3] = 0;
         struct call c = table_call(model, sizeof model, table, sizeof table, 3);
         expect(cases[i].name, &c, cases[i].answer, cases[i].place, cases[i].second, NULL);
-        c = finding_call(model, sizeof model, (const uint8_t *)"\0\0\1\0\1\24\0\0", 8, 3, 3);
+        c = finding_call(model, sizeof model, LEAF, sizeof LEAF, 3, 3);
         expect(cases[i].name, &c, cases[i].answer, cases[i].place, cases[i].second, NULL);
         expect_name(model, sizeof model, 0, "");
     }
@@ -388,10 +386,11 @@ static void bad_tables(void) {
 /* Slices longer than a total can say. */
 static void long_slices(void) {
     static const size_t lengths[] = {65535, 65536, 65536 + 95, 131072};
-    uint8_t *bytes = calloc(1, 131072), table[W_TABLE];
+    uint8_t *bytes = calloc(1, 131072), table[W_TABLE], free_tick[sizeof W];
     if (!bytes)
         exit(2);
     w_table(table, 2, 2, 0);
+    changed_w(free_tick, W_TICK_DEPENDENCY, 1);
     for (size_t i = 0; i < sizeof lengths / sizeof *lengths; i++) {
         memcpy(bytes, W, sizeof W); /* W and zeroes: its total is 95 */
         struct call c = table_call(bytes, lengths[i], table, sizeof table, 3);
@@ -400,10 +399,7 @@ static void long_slices(void) {
         memcpy(bytes, table, sizeof table);
         c = table_call(W, sizeof W, bytes, lengths[i], 3);
         expect("long table", &c, 5, 0, NONE, NULL);
-        memcpy(bytes, "\0\0\1\0\1\24\0\0", 8);
-        uint8_t free_tick[sizeof W];
-        memcpy(free_tick, W, sizeof W);
-        free_tick[W_TICK_DEPENDENCY] = 1;
+        memcpy(bytes, LEAF, sizeof LEAF);
         c = finding_call(free_tick, sizeof W, bytes, lengths[i], 3, 3);
         expect("long finding", &c, lengths[i] > LONGEST ? 21 : 22, lengths[i] > LONGEST ? 0 : 8, NONE, NULL);
     }
@@ -415,8 +411,6 @@ static void any_bytes(const char *name, const struct call *c) {
     static struct seen first, next;
     size_t nodes = plaitcrumb_nodes(c->model, c->model_len), symbols = plaitcrumb_symbols(c->model, c->model_len);
     current = name;
-    if (c->finding && !FINDINGS)
-        return;
     run(c, EXACT, &first);
     for (int at = 1; at < PLACES; at++) {
         run(c, (enum place)at, &next);
@@ -455,6 +449,7 @@ static void any_bytes(const char *name, const struct call *c) {
     }
 }
 
+/* Changes so many bytes, many of them to small numbers. */
 static void scatter(uint8_t *bytes, size_t len, unsigned changes) {
     for (unsigned i = 0; len && i < changes; i++)
         bytes[dice((unsigned)len)] = (uint8_t)(dice(2) ? dice(256) : dice(11));
@@ -556,16 +551,13 @@ static void full(int rounds) {
 static void *one_thread(void *answers) {
     uint64_t wrong = 0;
     for (int i = 0; i < 3000; i++) {
-        uint8_t table[W_TABLE], nodes[3];
+        uint8_t table[W_TABLE], nodes[3], symbols[3];
         w_table(table, 2, i % 2 ? 2 : 0, 0);
         uint64_t due = i % 2 ? 0xffffffffu : (uint64_t)11 << 32 | 1 << 16 | NONE;
         wrong += plaitcrumb_check_table(W, sizeof W, table, sizeof table, nodes, sizeof nodes) != due;
         wrong += plaitcrumb_name_length(plaitcrumb_name(W, sizeof W, 1 + (size_t)i % 2)) != (i % 2 ? 3u : 4u);
-        static const uint8_t leaf[8] = {0, 0, 1, 0, 1, 20, 0, 0};
-        uint8_t symbols[3];
         due = (uint64_t)23 << 32 | 4 << 16 | NONE;
-        wrong += FINDINGS && plaitcrumb_check_finding(W, sizeof W, leaf, sizeof leaf, nodes, sizeof nodes, symbols,
-                                                      sizeof symbols) != due;
+        wrong += plaitcrumb_check_finding(W, sizeof W, LEAF, sizeof LEAF, nodes, sizeof nodes, symbols, sizeof symbols) != due;
     }
     *(uint64_t *)answers = wrong;
     return NULL;
@@ -579,7 +571,7 @@ static void threads(void) {
             exit(2);
     for (int i = 0; i < 4; i++) {
         pthread_join(thread[i], NULL);
-        checks += FINDINGS ? 9000 : 6000;
+        checks += 9000;
         if (wrong[i])
             fail("%lu wrong answers in thread %d", (unsigned long)wrong[i], i);
     }
@@ -597,8 +589,6 @@ int main(int argc, char **argv) {
     full(rounds / 200);
     random_bytes(rounds);
     threads();
-    if (!FINDINGS)
-        printf("host: findings are NOT covered: the archive has no finding check yet\n");
     printf("host: %ld checks, %ld failed\n", checks, failed);
     return failed != 0;
 }

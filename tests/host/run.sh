@@ -25,7 +25,7 @@ header() {
 # Good and bad bytes. Rounds of random bytes: the first word, or 30,000.
 host() {
     # shellcheck disable=SC2086
-    gcc -g -O1 -fsanitize=address,undefined -fno-sanitize-recover -std=c99 $strict $findings -Iinclude \
+    gcc -g -O1 -fsanitize=address,undefined -fno-sanitize-recover -std=c99 $strict -Iinclude \
         tests/host/host.c "$lib" -pthread -o "$out/host" &&
         "$out/host" "${1:-30000}"
 }
@@ -33,8 +33,7 @@ host() {
 # No heap and no state of its own: it asks for no function but the C library's five on bytes, and has nothing that
 # can be written to. And it exports what the header says.
 contents() {
-    due="plaitcrumb_check_table plaitcrumb_name"
-    [ -z "$findings" ] || due="plaitcrumb_check_finding $due"
+    due="plaitcrumb_check_finding plaitcrumb_check_table plaitcrumb_name"
     has=$(nm -g --defined-only "$lib" | awk 'NF == 3 { print $3 }' | sort | tr '\n' ' ')
     asks=$(nm "$lib" | awk '$2 ~ /[A-TV-Z]/ { own[$3] } $1 ~ /^[Uw]$/ { ask[$2] }
         END { for (name in ask) if (!(name in own) && name !~ /^(memcpy|memmove|memset|memcmp|bcmp)$/) print name }' |

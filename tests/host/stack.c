@@ -11,10 +11,10 @@ enum { STACK = 1 << 20, TABLE_LIMIT = 1024, FINDING_LIMIT = 12288 };
 
 static uint8_t stack[STACK] __attribute__((aligned(64)));
 static uint8_t full[LONGEST], table_of_full[LONGEST], deep[LONGEST], finding[LONGEST], nodes[LONGEST], symbols[LONGEST];
-static uint8_t w_bytes[sizeof W], table_of_w[W_TABLE];
+static uint8_t table_of_w[W_TABLE];
 static ucontext_t here, there;
 
-/* The call that is measured. */
+/* What the measured call is given. The name call takes the length of the bytes for the symbol's number. */
 static const uint8_t *model, *bytes;
 static size_t model_len, bytes_len;
 static volatile uint64_t result;
@@ -24,11 +24,9 @@ static void table_call(void) {
     result = plaitcrumb_check_table(model, model_len, bytes, bytes_len, nodes, sizeof nodes);
 }
 static void name_call(void) { result = plaitcrumb_name(model, model_len, bytes_len); }
-#ifdef PLAITCRUMB_FINDINGS
 static void finding_call(void) {
     result = plaitcrumb_check_finding(model, model_len, bytes, bytes_len, nodes, sizeof nodes, symbols, sizeof symbols);
 }
-#endif
 
 /* Runs a call on the stack painted with this byte, and gives the bytes of it that are no longer paint. */
 static size_t used(void (*call)(void), int paint) {
@@ -55,13 +53,18 @@ static size_t measured(void (*call)(void)) {
     return (one > other ? one : other) - empty;
 }
 
-static size_t most;
+/* Says what the next calls are given. */
 static void set_input(const uint8_t *m, size_t ml, const uint8_t *b, size_t bl) {
     model = m;
     model_len = ml;
     bytes = b;
     bytes_len = bl;
 }
+
+/* The largest use since the last `within`. */
+static size_t most;
+
+/* Measures a call and prints what it used. */
 static void show(const char *what, void (*call)(void)) {
     size_t size = measured(call);
     if (size > most)
@@ -80,26 +83,24 @@ static int within(const char *function, size_t limit) {
 int main(void) {
     size_t full_len = full_book(full), full_table_len = full_table(table_of_full);
     int good = 1;
-    memcpy(w_bytes, W, sizeof W);
     w_table(table_of_w, 2, 2, 0);
 
-    set_input(w_bytes, sizeof W, table_of_w, W_TABLE);
+    set_input(W, sizeof W, table_of_w, W_TABLE);
     show("table check, worked model", table_call);
     set_input(full, full_len, table_of_full, full_table_len);
     show("table check, full book", table_call);
     good &= within("plaitcrumb_check_table", TABLE_LIMIT);
 
-    set_input(w_bytes, sizeof W, NULL, 2);
+    set_input(W, sizeof W, NULL, 2);
     show("name, worked model", name_call);
     set_input(full, full_len, NULL, FULL_SYMBOLS - 1);
     show("name, full book", name_call);
     good &= within("plaitcrumb_name", TABLE_LIMIT);
 
-#ifdef PLAITCRUMB_FINDINGS
     static const unsigned leaves[7][2] = {{20, 0}, {11, 7}, {12, 9}, {13, 7}, {18, 6}, {15, 0}, {17, 0}};
     size_t deep_len = small_deep_book(deep, 0);
     memcpy(finding + 4, table_of_w, W_TABLE);
-    set_input(w_bytes, sizeof W, finding, 4 + W_TABLE);
+    set_input(W, sizeof W, finding, 4 + W_TABLE);
     show("finding check, worked model, witness", finding_call);
     memcpy(finding + 4, table_of_full, full_table_len);
     set_input(full, full_len, finding, 4 + full_table_len);
@@ -120,11 +121,5 @@ int main(void) {
         show(what, finding_call);
     }
     good &= within("plaitcrumb_check_finding", FINDING_LIMIT);
-#else
-    (void)symbols;
-    (void)deep;
-    (void)finding;
-    printf("stack: findings are NOT covered: the archive has no finding check yet\n");
-#endif
     return !good;
 }

@@ -3,6 +3,5 @@
 set -eu
 cd "$(dirname "$0")/../.."
 . tests/host/archive.sh
-# shellcheck disable=SC2086
-gcc -O2 -std=c99 -Wall -Wextra -Wpedantic -Werror $findings -Iinclude tests/host/stack.c "$lib" -Wl,-z,now -o "$out/stack"
+gcc -O2 -std=c99 -Wall -Wextra -Wpedantic -Werror -Iinclude tests/host/stack.c "$lib" -Wl,-z,now -o "$out/stack"
 "$out/stack"

@@ -12,7 +12,6 @@ extern "C" {
         node_work: *mut u8,
         node_work_len: usize,
     ) -> u64;
-    #[cfg(plaitcrumb_findings)]
     fn plaitcrumb_check_finding(
         model: *const u8,
         model_len: usize,
@@ -25,12 +24,6 @@ extern "C" {
     ) -> u64;
     fn plaitcrumb_name(model: *const u8, model_len: usize, index: usize) -> u64;
 }
-
-/// Whether the archive has the finding check.
-pub const FINDINGS: bool = cfg!(plaitcrumb_findings);
-
-/// What to print where the archive has no finding check.
-pub const NO_FINDINGS: &str = "findings are NOT covered: the archive has no finding check yet";
 
 /// A result as its three numbers.
 fn unpacked(result: u64) -> Answer {
@@ -56,16 +49,15 @@ pub fn check_table(model: &[u8], table: &[u8], node_work: &mut [u8]) -> Answer {
     })
 }
 
-/// The finding check of the archive; nothing if it has none.
-#[cfg(plaitcrumb_findings)]
+/// The finding check of the archive.
 pub fn check_finding(
     model: &[u8],
     finding: &[u8],
     node_work: &mut [u8],
     symbol_work: &mut [u8],
-) -> Option<Answer> {
+) -> Answer {
     // Pointers and lengths of live slices that do not overlap.
-    Some(unpacked(unsafe {
+    unpacked(unsafe {
         plaitcrumb_check_finding(
             model.as_ptr(),
             model.len(),
@@ -76,13 +68,7 @@ pub fn check_finding(
             symbol_work.as_mut_ptr(),
             symbol_work.len(),
         )
-    }))
-}
-
-/// The finding check of the archive; nothing if it has none.
-#[cfg(not(plaitcrumb_findings))]
-pub fn check_finding(_: &[u8], _: &[u8], _: &mut [u8], _: &mut [u8]) -> Option<Answer> {
-    None
+    })
 }
 
 /// The name call of the archive: where the name starts in the model, and its

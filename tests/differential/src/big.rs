@@ -5,6 +5,7 @@ use crate::names::{names, Naming, ALIKE};
 use second::book::Book;
 use second::cases::{self, Case};
 use second::gen::dice::Dice;
+use second::named::{NODE_FILL, SYMBOL_FILL};
 use second::sketch::{self, Sketch, SymbolSketch, Tree, Value};
 use second::table::{self, Entry};
 use second::values::{self, State, N, Y};
@@ -428,7 +429,7 @@ fn limited(state: &State, symbol: usize, wanted: &Value) -> Value {
 }
 
 /// A case on a large book with one thing changed, or nothing.
-pub fn changed(dice: &mut Dice, big: &Big, findings: bool) -> Case {
+pub fn changed(dice: &mut Dice, big: &Big) -> Case {
     let mut big = big.clone();
     let last = big.sketch.symbols.len();
     let (one, other) = (dice.below(last), dice.below(last));
@@ -450,28 +451,28 @@ pub fn changed(dice: &mut Dice, big: &Big, findings: bool) -> Case {
                 *member = one as u16;
             }
         }),
-        _ => return flipped(dice, &big, findings),
+        _ => return flipped(dice, &big),
     }
-    asked(dice, &big, findings)
+    asked(dice, &big)
 }
 
 /// A case on a large book: its table checked, a finding, or a name.
-fn asked(dice: &mut Dice, big: &Big, findings: bool) -> Case {
+fn asked(dice: &mut Dice, big: &Big) -> Case {
     let (nodes, symbols) = (big.sketch.nodes.len(), big.sketch.symbols.len());
     let mut case = Case {
         kind: cases::TABLE,
         model: big.model(),
         second: big.table(),
-        node_work: vec![0xee; nodes + dice.below(2)],
+        node_work: vec![NODE_FILL; nodes + dice.below(2)],
         ..Case::default()
     };
     if dice.chance(8) {
         case.kind = cases::NAME;
         case.index = dice.below(symbols + 1) as u32;
-    } else if findings && dice.chance(40) {
+    } else if dice.chance(40) {
         let select = dice.below(big.sketch.selects.len()) as u16;
         case.kind = cases::FINDING;
-        case.symbol_work = vec![0xdd; symbols + dice.below(2)];
+        case.symbol_work = vec![SYMBOL_FILL; symbols + dice.below(2)];
         case.second = if dice.chance(50) {
             sketch::witness(select, &case.second)
         } else {
@@ -514,8 +515,8 @@ fn tree(
 
 /// A case on a large book in which one byte of the model or of the table is
 /// another one.
-fn flipped(dice: &mut Dice, big: &Big, findings: bool) -> Case {
-    let mut case = asked(dice, big, findings);
+fn flipped(dice: &mut Dice, big: &Big) -> Case {
+    let mut case = asked(dice, big);
     let bytes = if dice.chance(60) { &mut case.model } else { &mut case.second };
     let at = dice.below(bytes.len());
     if let Some(byte) = bytes.get_mut(at) {

@@ -16,7 +16,7 @@ const MARGIN: usize = 32;
 /// What the margins hold: no value, no set and no zero.
 const UNTOUCHED: u8 = 0x5a;
 
-/// The most nodes a book can hold.
+/// Room for the nodes of every book.
 const MOST_NODES: usize = 65535 / 6;
 
 /// What each side gave where they differ.
@@ -66,12 +66,11 @@ impl Lent {
 }
 
 /// Runs a case on both sides. Gives the answer that both drew (for a name 0,
-/// or 1 where it is empty), nothing where the archive lacks the function, or
-/// what they differ in.
-pub fn compare(case: &Case) -> Result<Option<u32>, Difference> {
+/// or 1 where it is empty), or what they differ in.
+pub fn compare(case: &Case) -> Result<u32, Difference> {
     match case.kind {
-        NAME => names(case).map(Some),
-        PROGRAM => line(case).map(Some),
+        NAME => names(case),
+        PROGRAM => line(case),
         _ => check(case),
     }
 }
@@ -95,17 +94,14 @@ pub fn differs(case: &Case) -> bool {
 }
 
 /// Compares a table or finding check: the answer, and every byte lent.
-fn check(case: &Case) -> Result<Option<u32>, Difference> {
+fn check(case: &Case) -> Result<u32, Difference> {
     let model = Lent::of(&case.model);
     let bytes = Lent::of(&case.second);
     let mut nodes = Lent::of(&case.node_work);
     let mut symbols = Lent::of(&case.symbol_work);
     let ours = if case.kind == FINDING {
         let rooms = (nodes.part_mut(), symbols.part_mut());
-        match archive::check_finding(model.part(), bytes.part(), rooms.0, rooms.1) {
-            Some(answer) => answer,
-            None => return Ok(None),
-        }
+        archive::check_finding(model.part(), bytes.part(), rooms.0, rooms.1)
     } else {
         archive::check_table(model.part(), bytes.part(), nodes.part_mut())
     };
@@ -124,7 +120,7 @@ fn check(case: &Case) -> Result<Option<u32>, Difference> {
         && inputs_kept
         && outside_kept;
     if alike {
-        return Ok(Some(theirs.number));
+        return Ok(theirs.number);
     }
     let mut archive = told(ours, nodes.part(), symbols.part());
     if !inputs_kept {
@@ -187,8 +183,8 @@ fn line(case: &Case) -> Result<u32, Difference> {
     Err(Difference { archive: text(&ours), second: text(&theirs) })
 }
 
-/// How many bytes of the program's input are the model.
-fn model_length(input: &[u8]) -> usize {
+/// How many bytes of an input are the model, by its first two.
+pub fn model_length(input: &[u8]) -> usize {
     match input {
         [low, high, ..] => input.len().min(usize::from(u16::from_le_bytes([*low, *high]))),
         _ => input.len(),

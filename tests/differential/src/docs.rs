@@ -1,5 +1,5 @@
-//! The byte examples of the documents: each block marked `case` is run, and
-//! must draw what it says.
+//! The byte examples of the documents: each block marked `case` is run by the
+//! second program and by the archive, and must draw what it says.
 //!
 //!     model    FILE.hex, byte N = HH .., cut to N bytes, then HH ..
 //!     table    the same; or bytes in hex, '#' starting a comment
@@ -10,30 +10,37 @@
 //! just the bytes that are needed; `nodes` and `symbols` give them afterwards.
 //! A line that starts with a blank goes on with the one before.
 
-use crate::archive::FINDINGS;
 use crate::compare::compare;
 use second::cases::{hex, Case, FINDING, NAME, TABLE};
 use second::named::{NODE_FILL, SYMBOL_FILL};
 use std::fs;
 use std::path::Path;
 
-/// What a document's examples came to: how many hold, and how many of those
-/// the archive answered too.
-pub struct Held {
-    pub cases: usize,
-    pub by_the_archive: usize,
+/// Runs the examples of some documents, the bytes of files standing in a
+/// folder, and says how it went.
+pub fn all(documents: &[String], files: &Path) -> bool {
+    let mut good = true;
+    for document in documents {
+        match run(Path::new(document), files) {
+            Ok(count) => println!("{document}: {count} examples hold on both sides"),
+            Err(fault) => {
+                eprintln!("{fault}");
+                good = false;
+            }
+        }
+    }
+    good
 }
 
-/// Runs every example of a document; the bytes of files stand in a folder.
-pub fn run(document: &Path, files: &Path) -> Result<Held, String> {
+/// Runs every example of a document, and says how many there are.
+fn run(document: &Path, files: &Path) -> Result<usize, String> {
     let text = read(document)?;
-    let mut held = Held { cases: 0, by_the_archive: 0 };
-    for (line, block) in blocks(&text) {
+    let blocks = blocks(&text);
+    for (line, block) in &blocks {
         let told = |fault| format!("{}:{line}: {fault}", document.display());
-        held.by_the_archive += usize::from(one(&block, files).map_err(told)?);
-        held.cases += 1;
+        one(block, files).map_err(told)?;
     }
-    Ok(held)
+    Ok(blocks.len())
 }
 
 /// Each block marked `case`, with the number of its first line.
@@ -64,8 +71,8 @@ fn blocks(text: &str) -> Vec<(usize, Vec<(String, String)>)> {
     found
 }
 
-/// Runs one example; says whether the archive answered it too.
-fn one(block: &[(String, String)], files: &Path) -> Result<bool, String> {
+/// Runs one example.
+fn one(block: &[(String, String)], files: &Path) -> Result<(), String> {
     let known =
         ["model", "table", "finding", "symbol", "rooms", "answer", "nodes", "symbols", "name"];
     if let Some((key, _)) = block.iter().find(|(key, _)| !known.contains(&key.as_str())) {
@@ -104,7 +111,7 @@ fn one(block: &[(String, String)], files: &Path) -> Result<bool, String> {
     }
     stated(&case, &value)?;
     match compare(&case) {
-        Ok(answer) => Ok(answer.is_some()),
+        Ok(_) => Ok(()),
         Err(difference) => Err(format!("the archive draws {}", difference.archive)),
     }
 }
@@ -205,23 +212,4 @@ fn numbers(text: &str) -> Result<Vec<usize>, String> {
 /// The text of a file.
 fn read(file: &Path) -> Result<String, String> {
     fs::read_to_string(file).map_err(|error| format!("{}: {error}", file.display()))
-}
-
-/// Runs the examples of some documents, and says how it went.
-pub fn all(documents: &[String], files: &Path) -> bool {
-    let mut good = true;
-    for document in documents {
-        match run(Path::new(document), files) {
-            Ok(held) => {
-                let (cases, answered) = (held.cases, held.by_the_archive);
-                let lacking = if FINDINGS { "" } else { "; the archive has no finding check yet" };
-                println!("{document}: {cases} examples hold, {answered} of them by the archive too{lacking}");
-            }
-            Err(fault) => {
-                eprintln!("{fault}");
-                good = false;
-            }
-        }
-    }
-    good
 }

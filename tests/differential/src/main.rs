@@ -5,20 +5,19 @@
 //!        differential docs FOLDER DOCUMENT..
 //!        differential self-test
 //!
-//! COUNT cases of SEED (or N and SEED of the environment; else 100,000 of seed
-//! 1), three neighbours of each, some large books and every named case go
-//! through both. Answer, place, second place, names, and every byte of both
-//! rooms must be the same, and nothing else may be written to. A difference is
-//! shrunk and printed as a case of the protocol in hex, which `case` runs again.
-//! `docs` runs the byte examples of documents, on the files of a folder;
-//! `self-test` sees to it that a judge which is wrong on purpose is found out.
+//! COUNT cases of SEED (else 100,000 of seed 1), three neighbours of each, some
+//! large books and every named case go through both. Answer, place, second
+//! place, names, and every byte of both rooms must be the same, and nothing else
+//! may be written to. A difference is shrunk and printed as a case of the
+//! protocol in hex, which `case` runs again. `docs` runs the byte examples of
+//! documents, on the files of a folder; `self-test` sees to it that a judge which
+//! is wrong on purpose is found out.
 
-use differential::archive::{FINDINGS, NO_FINDINGS};
 use differential::big::{self, Big, Shape};
 use differential::compare::{compare, differs};
-use differential::show::{from_hex, show, KINDS};
+use differential::show::{from_hex, show};
 use differential::{docs, selftest};
-use second::cases::{Case, NAME};
+use second::cases::{Case, KINDS, NAME};
 use second::gen::dice::Dice;
 use second::gen::{self, Which};
 use second::named;
@@ -37,9 +36,6 @@ const LARGE_CASES: usize = 16;
 /// The differences shown before the run is given up.
 const SHOWN: usize = 3;
 
-/// The seed of the self-test.
-const SELF_TEST: u64 = 11;
-
 fn main() -> ExitCode {
     let words: Vec<String> = std::env::args().skip(1).collect();
     match &words[..] {
@@ -48,16 +44,15 @@ fn main() -> ExitCode {
             return ExitCode::from(u8::from(!docs::all(documents, Path::new(folder))));
         }
         [word] if word == "self-test" => {
-            return ExitCode::from(u8::from(!selftest::run(|index| generated(SELF_TEST, index))));
+            return ExitCode::from(u8::from(!selftest::run()));
         }
         _ => {}
     }
-    let number = |word: usize, variable: &str, usual: u64| {
-        let text = words.get(word).cloned().or_else(|| std::env::var(variable).ok());
-        text.map_or(Some(usual), |text| text.replace([',', '_'], "").parse().ok())
+    let number = |word: usize, usual: u64| match words.get(word) {
+        Some(text) => text.replace([',', '_'], "").parse().ok(),
+        None => Some(usual),
     };
-    let (Some(count), Some(seed), true) =
-        (number(0, "N", 100_000), number(1, "SEED", 1), words.len() <= 2)
+    let (Some(count), Some(seed), true) = (number(0, 100_000), number(1, 1), words.len() <= 2)
     else {
         eprintln!(
             "usage: differential [COUNT [SEED]] | case HEX | docs FOLDER DOCUMENT.. | self-test"
@@ -77,7 +72,6 @@ struct Run {
     neighbours: usize,
     large: usize,
     named: usize,
-    not_covered: usize,
     differences: usize,
     drawn: BTreeMap<(u32, u32), usize>,
 }
@@ -93,7 +87,7 @@ impl Run {
             if self.differences >= SHOWN {
                 return;
             }
-            let case = generated(seed, index as u64);
+            let case = gen::case(seed, index as u64, Which::All);
             self.generated += 1;
             self.one(&case);
             let mut dice = Dice::new(!seed, index as u64);
@@ -112,7 +106,7 @@ impl Run {
         let shape = Shape::random(dice);
         let big = Big::new(&shape, dice.next());
         for number in 0..LARGE_CASES {
-            let mut case = big::changed(dice, &big, FINDINGS);
+            let mut case = big::changed(dice, &big);
             case.name = format!("large-{seed}-{index}-{number}");
             self.large += 1;
             self.one(&case);
@@ -122,8 +116,7 @@ impl Run {
     /// One case; a difference is shrunk and shown.
     fn one(&mut self, case: &Case) {
         match compare(case) {
-            Ok(Some(answer)) => *self.drawn.entry((case.kind, answer)).or_insert(0) += 1,
-            Ok(None) => self.not_covered += 1,
+            Ok(answer) => *self.drawn.entry((case.kind, answer)).or_insert(0) += 1,
             Err(_) if self.differences >= SHOWN => {}
             Err(difference) => {
                 self.differences += 1;
@@ -144,9 +137,6 @@ impl Run {
                 .collect();
             println!("{word:8} {}", if drawn.is_empty() { "-".into() } else { drawn.join("  ") });
         }
-        if !FINDINGS {
-            println!("{NO_FINDINGS} ({} named cases left out)", self.not_covered);
-        }
         println!(
             "differential: seed {seed}: {generated} generated cases, {neighbours} neighbours, \
              {large} on large books, {named} named, in {seconds:.1} s: {} differ{}",
@@ -155,17 +145,6 @@ impl Run {
         );
         ExitCode::from(u8::from(self.differences > 0))
     }
-}
-
-/// A generated case; tables, names and programs where findings are not covered.
-fn generated(seed: u64, index: u64) -> Case {
-    let which = match index % 20 {
-        _ if FINDINGS => Which::All,
-        0 => Which::Names,
-        1 | 2 => Which::Programs,
-        _ => Which::Tables,
-    };
-    gen::case(seed, index, which)
 }
 
 /// The case with one byte of the model or of the other bytes changed, or with a
@@ -215,8 +194,7 @@ fn one_case(text: &str) -> ExitCode {
         return ExitCode::from(2);
     };
     match compare(&case) {
-        Ok(Some(answer)) => println!("{}: both draw {}", case.name, label(case.kind, answer)),
-        Ok(None) => println!("{}: {NO_FINDINGS}", case.name),
+        Ok(answer) => println!("{}: both draw {}", case.name, label(case.kind, answer)),
         Err(difference) => show(&case, &difference),
     }
     ExitCode::from(u8::from(differs(&case)))

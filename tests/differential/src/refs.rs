@@ -1,8 +1,8 @@
 //! What in a case counts by the records of a section: brought down when some
 //! records go, so that a case made smaller still says the same.
 
-use crate::shrink::{count, is_clearance, lower, HEAD};
-use second::book::{u16_at, WIDTH};
+use crate::shrink::{count, is_clearance, lower};
+use second::book::{u16_at, HEAD, WIDTH};
 use second::cases::{Case, FINDING, NAME, TABLE};
 use std::ops::Range;
 

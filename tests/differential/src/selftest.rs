@@ -1,29 +1,29 @@
 //! The comparer with a judge that is wrong on purpose: the difference must be
 //! found, made small, and be the same case again after it went through hex.
 
-use crate::archive::FINDINGS;
 use crate::compare::{blind_the_judge, compare, differs};
 use crate::show::{from_hex, to_hex};
 use crate::shrink::shrunk;
 use second::cases::Case;
+use second::gen::{self, Which};
 
 /// The answers that the judge is made blind to, one after the other.
-const TABLES: [u32; 5] = [3, 6, 11, 14, 15];
-const WITH_FINDINGS: [u32; 8] = [3, 6, 11, 14, 15, 22, 23, 24];
+const ANSWERS: [u32; 8] = [3, 6, 11, 14, 15, 22, 23, 24];
 
 /// The most bytes that the model and the table or finding of a shrunk case may
 /// have.
 const SMALL: (usize, usize) = (100, 30);
 
-/// The most cases that are tried before a wrong judge must have been found.
+/// The seed of the cases that are tried, and the most of them before a wrong
+/// judge must have been found.
+const SEED: u64 = 11;
 const MOST: u64 = 20_000;
 
 /// Tries each wrong judge on generated cases; says whether all were found out.
-pub fn run(generated: impl Fn(u64) -> Case) -> bool {
-    let answers: &[u32] = if FINDINGS { &WITH_FINDINGS } else { &TABLES };
+pub fn run() -> bool {
     let mut good = true;
-    for &answer in answers {
-        match one(answer, &generated) {
+    for answer in ANSWERS {
+        match one(answer) {
             Ok((index, case, small)) => {
                 let fits = small.model.len() <= SMALL.0 && small.second.len() <= SMALL.1;
                 good &= fits;
@@ -47,9 +47,10 @@ pub fn run(generated: impl Fn(u64) -> Case) -> bool {
 }
 
 /// Finds and shrinks what a judge blind to an answer gets wrong.
-fn one(answer: u32, generated: &impl Fn(u64) -> Case) -> Result<(u64, Case, Case), String> {
+fn one(answer: u32) -> Result<(u64, Case, Case), String> {
     blind_the_judge(Some(answer));
-    let found = (0..MOST).map(|index| (index, generated(index))).find(|(_, case)| differs(case));
+    let mut cases = (0..MOST).map(|index| (index, gen::case(SEED, index, Which::All)));
+    let found = cases.find(|(_, case)| differs(case));
     let result = found.map(|(index, case)| {
         let small = shrunk(&case);
         let again = from_hex(&to_hex(&small));
@@ -60,7 +61,7 @@ fn one(answer: u32, generated: &impl Fn(u64) -> Case) -> Result<(u64, Case, Case
         None => Err(format!("NOT FOUND in {MOST} cases")),
         Some((_, _, None)) => Err("the shrunk case does NOT differ again".into()),
         Some((index, case, Some(small))) => match compare(&small) {
-            Ok(Some(drawn)) if drawn == answer => Ok((index, case, small)),
+            Ok(drawn) if drawn == answer => Ok((index, case, small)),
             _ => Err("the right judge does NOT see that answer in the shrunk case".into()),
         },
     }

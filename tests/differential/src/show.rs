@@ -2,10 +2,7 @@
 
 use crate::compare::{compare, Difference};
 use crate::shrink::shrunk;
-use second::cases::{hex, Case};
-
-/// The words for the kinds of cases.
-pub const KINDS: [&str; 4] = ["table", "finding", "name", "program"];
+use second::cases::{hex, Case, KINDS};
 
 /// Shows a difference, and the smallest case found that still has one.
 pub fn show(case: &Case, difference: &Difference) {

@@ -2,7 +2,7 @@
 
 use crate::compare::differs;
 use crate::refs;
-use second::book::{u16_at, WIDTH};
+use second::book::{u16_at, HEAD, WIDTH};
 use second::cases::{Case, FINDING};
 use std::time::{Duration, Instant};
 
@@ -12,9 +12,6 @@ const LONGEST: Duration = Duration::from_secs(8);
 
 /// One of the byte lists of a case.
 type Bytes = fn(&mut Case) -> &mut Vec<u8>;
-
-/// The head of a book.
-pub(crate) const HEAD: usize = 36;
 
 /// A smaller case on which the two sides still differ.
 pub fn shrunk(case: &Case) -> Case {

@@ -9,14 +9,11 @@
 //! Mended means that totals, counts and starts are made to fit the counts and
 //! lengths beside them, so that a changed count is not just a broken chain.
 
-use differential::compare::compare;
+use differential::compare::{compare, model_length};
 use differential::show::show;
-use second::book::{u16_at, WIDTH};
+use second::book::{u16_at, HEAD, WIDTH};
 use second::cases::{Case, FINDING, NAME, PROGRAM, TABLE};
 use second::named::{NODE_FILL, SYMBOL_FILL};
-
-/// The head of a book.
-const HEAD: usize = 36;
 
 /// The bit of the first byte that asks for mending.
 const MEND: u8 = 4;
@@ -54,7 +51,7 @@ pub fn case(input: &[u8]) -> Case {
     let (first, rest) = input.split_first().unwrap_or((&0, &[]));
     let kind = [TABLE, FINDING, NAME, FINDING][usize::from(first & 3)];
     let mut bytes = rest.to_vec();
-    let length = if first & MEND != 0 { mend_model(&mut bytes) } else { stated(&bytes) };
+    let length = if first & MEND != 0 { mend_model(&mut bytes) } else { model_length(&bytes) };
     let mut second = bytes.split_off(length);
     let counted = |at: usize| if bytes.len() < HEAD { 0 } else { u16_at(&bytes, at) };
     let (symbols, nodes) = (counted(6), counted(10));
@@ -92,14 +89,6 @@ pub fn input(case: &Case, first: u8) -> Vec<u8> {
         _ => out.extend(&case.second),
     }
     out
-}
-
-/// How many of the bytes are the model, by their first two.
-fn stated(bytes: &[u8]) -> usize {
-    match bytes {
-        [low, high, ..] => bytes.len().min(usize::from(u16::from_le_bytes([*low, *high]))),
-        _ => bytes.len(),
-    }
 }
 
 /// Makes the chain and the total fit the counts, the last sections giving way
