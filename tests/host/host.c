@@ -312,6 +312,8 @@ static void nothing_lent(void) {
     if (plaitcrumb_symbol((uint64_t)11 << 32 | 7 << 16 | 9) != 7 || plaitcrumb_symbol((uint64_t)15 << 32 | 7 << 16 | 9) != 9 ||
         plaitcrumb_symbol((uint64_t)17 << 32 | 7 << 16 | 9) != PLAITCRUMB_NO_PLACE || plaitcrumb_symbol(0) != PLAITCRUMB_NO_PLACE)
         fail("the symbol that a result blames");
+    if (PLAITCRUMB_MOST_NODES != (LONGEST - HEAD) / 6 || PLAITCRUMB_MOST_SYMBOLS != (LONGEST - HEAD) / 8)
+        fail("the rooms that are long enough for every model");
 }
 
 /* W with one number changed: where, to what, and what that draws. */

@@ -36,6 +36,9 @@ pub fn all(documents: &[String], files: &Path) -> bool {
 fn run(document: &Path, files: &Path) -> Result<usize, String> {
     let text = read(document)?;
     let blocks = blocks(&text);
+    if blocks.is_empty() {
+        return Err(format!("{}: no example", document.display()));
+    }
     for (line, block) in &blocks {
         let told = |fault| format!("{}:{line}: {fault}", document.display());
         one(block, files).map_err(told)?;
