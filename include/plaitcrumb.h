@@ -32,8 +32,8 @@
  *     finding are only read, so they may overlap each other.
  *   - No heap, no global state, no input or output, and no pointer is kept. So the calls may run in several
  *     threads at once, each with rooms of its own, on the same model if nobody writes to it meanwhile.
- *   - Little stack: at most 1 KiB for the table check and for the name, at most 12 KiB for the finding check,
- *     which walks a tree up to 64 deep. tests/host/stack.c measures it.
+ *   - Little stack: under 1 KiB for the table check, the name and a witness, under 12 KiB for a clearance,
+ *     whose tree is walked up to 64 deep. tests/host/stack.c measures it.
  *   - The same bytes handed in give the same result. What stood in the rooms before plays no part.
  *
  * THE RESULT OF A CHECK

@@ -1,6 +1,6 @@
 /*
  * How much stack each function of the archive uses: a call on a painted stack of its own, and how deep the paint is
- * gone. Ends non-zero if the table check or the name uses over 1,024 bytes, or the finding check over 12,288.
+ * gone. Ends non-zero unless the table check, the name and a witness use under 1,024 bytes, and a clearance under 12,288.
  */
 #define _GNU_SOURCE
 #include "books.h"
@@ -10,7 +10,7 @@
 enum { STACK = 1 << 20, TABLE_LIMIT = 1024, FINDING_LIMIT = 12288 };
 
 static uint8_t stack[STACK] __attribute__((aligned(64)));
-static uint8_t full[LONGEST], table_of_full[LONGEST], deep[LONGEST], finding[LONGEST], nodes[LONGEST], symbols[LONGEST];
+static uint8_t full[LONGEST], twice[LONGEST], table_of_full[LONGEST], deep[LONGEST], finding[LONGEST], nodes[LONGEST], symbols[LONGEST];
 static uint8_t table_of_w[W_TABLE];
 static ucontext_t here, there;
 
@@ -64,18 +64,23 @@ static void set_input(const uint8_t *m, size_t ml, const uint8_t *b, size_t bl) 
 /* The largest use since the last `within`. */
 static size_t most;
 
-/* Measures a call and prints what it used. */
-static void show(const char *what, void (*call)(void)) {
+/* Whether every call so far gave the answer that was due: another one may have ended early, with little stack. */
+static int answered = 1;
+
+/* Measures a call that gives this answer, and prints what it used. A name has none. */
+static void show(const char *what, void (*call)(void), unsigned due) {
     size_t size = measured(call);
+    unsigned answer = call == name_call ? 0 : (unsigned)plaitcrumb_answer(result);
     if (size > most)
         most = size;
-    printf("  %-52s answer %2u  %6zu bytes\n", what, (unsigned)(call == name_call ? 0 : plaitcrumb_answer(result)), size);
+    printf("  %-52s answer %2u  %6zu bytes%s\n", what, answer, size, answer == due ? "" : ": ANOTHER ANSWER WAS DUE");
+    answered &= answer == due;
 }
 
 /* Ends a function: its largest use against its limit. */
 static int within(const char *function, size_t limit) {
-    int good = most <= limit;
-    printf("stack: %s: %zu bytes at most, limit %zu%s\n", function, most, limit, good ? "" : ": OVER THE LIMIT");
+    int good = most < limit;
+    printf("stack: %s: %zu bytes at most, limit under %zu%s\n", function, most, limit, good ? "" : ": OVER THE LIMIT");
     most = 0;
     return good;
 }
@@ -86,40 +91,52 @@ int main(void) {
     w_table(table_of_w, 2, 2, 0);
 
     set_input(W, sizeof W, table_of_w, W_TABLE);
-    show("table check, worked model", table_call);
+    show("table check, worked model", table_call, 0);
     set_input(full, full_len, table_of_full, full_table_len);
-    show("table check, full book", table_call);
+    show("table check, full book", table_call, 0);
+    memcpy(twice, full, full_len);
+    memcpy(twice + 36 + 8 * (FULL_SYMBOLS - 1) + 1, twice + 36 + 1, 3); /* the last name is the first */
+    set_input(twice, full_len, table_of_full, full_table_len);
+    show("table check, full book, a name twice", table_call, 3);
     good &= within("plaitcrumb_check_table", TABLE_LIMIT);
 
     set_input(W, sizeof W, NULL, 2);
-    show("name, worked model", name_call);
+    show("name, worked model", name_call, 0);
     set_input(full, full_len, NULL, FULL_SYMBOLS - 1);
-    show("name, full book", name_call);
+    show("name, full book", name_call, 0);
+    set_input(twice, full_len, NULL, FULL_SYMBOLS - 1);
+    show("name, full book, a name twice", name_call, 0);
     good &= within("plaitcrumb_name", TABLE_LIMIT);
 
-    static const unsigned leaves[7][2] = {{20, 0}, {11, 7}, {12, 9}, {13, 7}, {18, 6}, {15, 0}, {17, 0}};
-    size_t deep_len = small_deep_book(deep, 0);
     memcpy(finding + 4, table_of_w, W_TABLE);
     set_input(W, sizeof W, finding, 4 + W_TABLE);
-    show("finding check, worked model, witness", finding_call);
+    show("finding check, worked model, witness", finding_call, 0);
     memcpy(finding + 4, table_of_full, full_table_len);
     set_input(full, full_len, finding, 4 + full_table_len);
-    show("finding check, full book, witness", finding_call);
+    show("finding check, full book, witness", finding_call, 24);
+    set_input(twice, full_len, finding, 4 + full_table_len);
+    show("finding check, full book, a name twice", finding_call, 3);
+    good &= within("plaitcrumb_check_finding, a witness", TABLE_LIMIT);
+
+    /* A leaf's rule and place, and whether it is closed. */
+    static const unsigned leaves[7][3] = {{20, 0, 0},  {11, 7, 23}, {12, 9, 23}, {13, 7, 0},
+                                          {18, 6, 23}, {15, 0, 23}, {17, 0, 23}};
+    size_t deep_len = small_deep_book(deep, 0);
     set_input(deep, deep_len, finding, deep_clearance(finding, 64, 0, 2, 20, 0));
-    show("finding check, 64 splits on a small book", finding_call);
+    show("finding check, 64 splits on a small book", finding_call, 0);
     for (unsigned nots = 1; nots <= 64; nots *= 2) {
         char what[60];
         deep_len = small_deep_book(deep, nots);
         set_input(deep, deep_len, finding, deep_clearance(finding, 64, 0, 2, 20, 0));
         sprintf(what, "finding check, 64 splits, %u nots over an equality", nots);
-        show(what, finding_call);
+        show(what, finding_call, 0);
     }
     for (int i = 0; i < 7; i++) {
         char what[60];
         set_input(full, full_len, finding, deep_clearance(finding, 64, 6, 3, leaves[i][0], leaves[i][1]));
         sprintf(what, "finding check, full book, 64 splits to a leaf %u", leaves[i][0]);
-        show(what, finding_call);
+        show(what, finding_call, leaves[i][2]);
     }
-    good &= within("plaitcrumb_check_finding", FINDING_LIMIT);
-    return !good;
+    good &= within("plaitcrumb_check_finding, a clearance", FINDING_LIMIT);
+    return !(good & answered);
 }

@@ -26,37 +26,37 @@ use Rattle.symbol_rules.proofs.Laws.{range-off}
 use Rattle.blocks.specs.Rows.{placeOf, Rows, firstDefault, chosen, Free, Marked}
 
 -- WHERE A SYMBOL STANDS in a block
-place-in : (t base a : ℕ) → t < 65536 → base < 65536 → t ≡ base + a → a < 80 → placeOf t base ≡ a
+place-in : (t base a : ℕ) → t < 65536 → base < 65536 → t ≡ base + a → a < 72 → placeOf t base ≡ a
 place-in t base a lt lb e l = let z : t + 65536 - base ≡ a + 65536 = omega arith in rw z (omega arith)
 
-place-out : (t base a : ℕ) → t < 65536 → base < 65536 → base + a < 65536 → (t ≡ base + a → ⊥) → a < 80 → a ≡ placeOf t base → ⊥
+place-out : (t base a : ℕ) → t < 65536 → base < 65536 → base + a < 65536 → (t ≡ base + a → ⊥) → a < 72 → a ≡ placeOf t base → ⊥
 place-out t base a lt lb lw n l e = n (omega arith)
 
 -- A STORE of v at the place of symbol t: what then stands at the place a
-module _ (room : List ℕ) (base a : ℕ) {t i : ℕ} (v : ℕ) (lt : t < 65536) (lb : base < 65536) (ei : i ≡ placeOf t base) (l : a < 80)
+module _ (room : List ℕ) (base a : ℕ) {t i : ℕ} (v : ℕ) (lt : t < 65536) (lb : base < 65536) (ei : i ≡ placeOf t base) (l : a < 72)
     (w : base + a < 65536) where
-  stored-here : length room ≡ 80 → eqb t (base + a) ≡ true → (i ≡ a) × (getD (set room i v) a 0 ≡ v)
+  stored-here : length room ≡ 72 → eqb t (base + a) ≡ true → (i ≡ a) × (getD (set room i v) a 0 ≡ v)
   stored-here len h = let z : i ≡ a = ei ∙ place-in t base a lt lb (eqb-true _ _ h) l in (z, rw z (getD-set-same room a v 0 (omega arith)))
 
   stored-apart : eqb t (base + a) ≡ false → getD (set room i v) a 0 ≡ getD room a 0
   stored-apart h = getD-set-other room i a v 0 (λ e. place-out t base a lt lb w (eqb-false _ _ h) l (e ∙ ei))
 
-  not-here : 80 ≤ i → eqb t (base + a) ≡ true → ⊥
+  not-here : 72 ≤ i → eqb t (base + a) ≡ true → ⊥
   not-here out h = absurd (omega (arith, ei ∙ place-in t base a lt lb (eqb-true _ _ h) l))
 
 -- A PASS: before its first turn, and after the turn of record j, on symbol t, that stores v at place i, or nothing outside the block
 module _ (step : ℕ → ℕ → ℕ → ℕ) (base : ℕ) where
-  pub rows-none : Rows step 0 base (replicate 80 0)
+  pub rows-none : Rows step 0 base (replicate 72 0)
   unfolding fold
-  rows-none i l w = getD-replicate 80 i 0 0 l
+  rows-none i l w = getD-replicate 72 i 0 0 l
 
   module _ (room : List ℕ) (j : ℕ) (f : ℕ → ℕ) {t i : ℕ} (es : (s x : ℕ) → step s j x ≡ pick (eqb t s) (f x) x) (lt : t < 65536) (lb : base < 65536)
       (ei : i ≡ placeOf t base) (all : Rows step j base room) where
-    off : (a : ℕ) → a < 80 → base + a < 65536 → eqb t (base + a) ≡ false → getD room a 0 ≡ fold (step (base + a)) 0 (suc j)
+    off : (a : ℕ) → a < 72 → base + a < 65536 → eqb t (base + a) ≡ false → getD room a 0 ≡ fold (step (base + a)) 0 (suc j)
     unfolding fold
     off a l w h = rw (es (base + a) (fold (step (base + a)) 0 j), h) (all a l w)
 
-    pub rows-more : {v : ℕ} → v ≡ f (getD room i 0) → length room ≡ 80 → Rows step (j + 1) base (set room i v)
+    pub rows-more : {v : ℕ} → v ≡ f (getD room i 0) → length room ≡ 72 → Rows step (j + 1) base (set room i v)
     unfolding fold
     rows-more {v} ev len a l w = rw (add-one j) (turn (eqb t (base + a)) refl)
       where
@@ -66,7 +66,7 @@ module _ (step : ℕ → ℕ → ℕ → ℕ) (base : ℕ) where
             rw (es (base + a) (fold (step (base + a)) 0 j), h) (z .1 ∙ ev ∙ rw (z .0) (ap f (all a l w)))
         turn false h = stored-apart room base a v lt lb ei l w h ∙ off a l w h
 
-    pub rows-same : 80 ≤ i → Rows step (j + 1) base room
+    pub rows-same : 72 ≤ i → Rows step (j + 1) base room
     unfolding fold
     rows-same out a l w = rw (add-one j) (turn (eqb t (base + a)) refl)
       where
@@ -74,7 +74,7 @@ module _ (step : ℕ → ℕ → ℕ → ℕ) (base : ℕ) where
         turn true h = absurd (not-here room base a 0 lt lb ei l w out h)
         turn false h = off a l w h
 
-  pub rows-at : (room : List ℕ) (n s : ℕ) → Rows step n base room → base ≤ s → s < base + 80 → s < 65536 → getD room (s - base) 0 ≡ fold (step s) 0 n
+  pub rows-at : (room : List ℕ) (n s : ℕ) → Rows step n base room → base ≤ s → s < base + 72 → s < 65536 → getD room (s - base) 0 ≡ fold (step s) 0 n
   rows-at room n s all l h w = let e : base + (s - base) ≡ s = omega arith in all (s - base) (omega arith) (omega arith) ∙ rw e
 
 -- LOWER and the FIRST DEFAULT as such passes
@@ -124,12 +124,12 @@ module _ (m t vs : List ℕ) (base : ℕ) where
 
   module _ (room : List ℕ) (r : ℕ) {s i : ℕ} (es : s ≡ rangeSymbol m r) (ls : s < 65536) (lb : base < 65536) (ei : i ≡ placeOf s base)
       (all : Marked m t vs r base room) where
-    free : (a : ℕ) → a < 80 → base + a < 65536 → eqb s (base + a) ≡ false → getD room a 0 < 4 → Free m (r + 1) (base + a)
+    free : (a : ℕ) → a < 72 → base + a < 65536 → eqb s (base + a) ≡ false → getD room a 0 < 4 → Free m (r + 1) (base + a)
     free a l w h k x n e =
         ⊎-elim (λ y. eqb-false _ _ h (es ∙ ap (rangeSymbol m) (sym y) ∙ e)) (λ y. all a l w .1 k x y e)
         (eq-or-lt-of-le (le-of-suc-le-suc (rw (add-one r) at n)))
 
-    pub marked-more : {v : ℕ} → v ≡ getD room i 0 % 4 + 4 → length room ≡ 80 → Marked m t vs (r + 1) base (set room i v)
+    pub marked-more : {v : ℕ} → v ≡ getD room i 0 % 4 + 4 → length room ≡ 72 → Marked m t vs (r + 1) base (set room i v)
     marked-more {v} ev len a l w = turn (eqb s (base + a)) refl
       where
         turn : (q : Bool) → eqb s (base + a) ≡ q
@@ -140,14 +140,14 @@ module _ (m t vs : List ℕ) (base : ℕ) where
             (omega (arith, u, all a l w .0), λ k. absurd (omega (arith, u)))
         turn false h = let u = stored-apart room base a v ls lb ei l w h in (rw u (all a l w .0), λ k. free a l w h (omega (arith, u)))
 
-    pub marked-same : 80 ≤ i → Marked m t vs (r + 1) base room
+    pub marked-same : 72 ≤ i → Marked m t vs (r + 1) base room
     marked-same out a l w = (all a l w .0, turn (eqb s (base + a)) refl)
       where
         turn : (q : Bool) → eqb s (base + a) ≡ q → getD room a 0 < 4 → Free m (r + 1) (base + a)
         turn true h = absurd (not-here room base a 0 ls lb ei l w out h)
         turn false h = free a l w h
 
-  pub marked-at : (room : List ℕ) (n s : ℕ) → Marked m t vs n base room → base ≤ s → s < base + 80 → s < 65536
+  pub marked-at : (room : List ℕ) (n s : ℕ) → Marked m t vs n base room → base ≤ s → s < base + 72 → s < 65536
       → (getD room (s - base) 0 % 4 ≡ lowerOf m t vs s) × (getD room (s - base) 0 < 4 → Free m n s)
   marked-at room n s all l h w =
       let e : base + (s - base) ≡ s = omega arith in
@@ -155,7 +155,7 @@ module _ (m t vs : List ℕ) (base : ℕ) where
       (a .0 ∙ rw e, λ k. rw e at (a .1 k))
 
 pub first-at : (m vs : List ℕ) (base : ℕ) (room : List ℕ) (s : ℕ) → Rows (defaultStep m (conditionValue m vs) suc) (defaults m) base room
-    → base ≤ s → s < base + 80 → s < 65536 → getD room (s - base) 0 ≡ firstDefault m vs s
+    → base ≤ s → s < base + 72 → s < 65536 → getD room (s - base) 0 ≡ firstDefault m vs s
 unfolding firstDefault defaultFrom
 first-at m vs base room s all l h w = rows-at (defaultStep m (conditionValue m vs) suc) base room (defaults m) s all l h w
 

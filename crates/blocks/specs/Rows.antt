@@ -8,13 +8,13 @@ use Rattle.meaning.specs.Base.{pick, fold}
 use Rattle.meaning.specs.Book.{rangeSymbol}
 use Rattle.meaning.specs.Values.{defaultFrom, conditionValue, lowerOf}
 
--- how far behind base symbol s stands, round the 65,536 numbers: below 80 in the block from base on
+-- how far behind base symbol s stands, round the 65,536 numbers: below 72 in the block from base on
 abbrev pub placeOf : ℕ → ℕ → ℕ
 placeOf s base = (s + 65536 - base) % 65536
 
 -- a room has, for each symbol of the block, what the first n records come to
 abbrev pub Rows : (ℕ → ℕ → ℕ → ℕ) → ℕ → ℕ → List ℕ → Type 0
-Rows step n base room = (i : ℕ) → i < 80 → base + i < 65536 → getD room i 0 ≡ fold (step (base + i)) 0 n
+Rows step n base room = (i : ℕ) → i < 72 → base + i < 65536 → getD room i 0 ≡ fold (step (base + i)) 0 n
 
 -- one more than the first default on s whose condition is above n, 0 if there is none
 unfoldable pub firstDefault : List ℕ → List ℕ → ℕ → ℕ
@@ -31,4 +31,4 @@ Free m n s = (r : ℕ) → r < n → rangeSymbol m r ≡ s → ⊥
 
 -- a room has Lower of each symbol, and 4 more where one of the first n ranges is on it
 abbrev pub Marked : List ℕ → List ℕ → List ℕ → ℕ → ℕ → List ℕ → Type 0
-Marked m t vs n base room = (i : ℕ) → i < 80 → base + i < 65536 → (getD room i 0 % 4 ≡ lowerOf m t vs (base + i)) × (getD room i 0 < 4 → Free m n (base + i))
+Marked m t vs n base room = (i : ℕ) → i < 72 → base + i < 65536 → (getD room i 0 % 4 ≡ lowerOf m t vs (base + i)) × (getD room i 0 < 4 → Free m n (base + i))

@@ -1,4 +1,4 @@
-// Rules 11 to 14 for all symbols, by blocks of 80.
+// Rules 11 to 14 for all symbols, by blocks of 72.
 //
 // Total over any bytes: `vs` has the nodes' values. For each block one pass over the selects works out Lower of its symbols, one
 // over the ranges says which have any, one over the defaults finds the first of each that applies.
@@ -19,7 +19,7 @@ use meaning::Outcome;
 use spell::Leaf;
 use tri::Tri;
 
-// How far behind base s stands; a block's own symbols are the first 80.
+// How far behind base s stands; a block's own symbols are the first 72.
 fn place(s: usize, base: usize) -> usize
     requires { ⌜ (s < 65536) × (base < 65536) ⌝ }
     ensures { λ r. ⌜ r ≡ placeOf s base ⌝ }
@@ -95,34 +95,34 @@ fn symbol_fault(m: &[u8], t: &[u8], vs: &[u8], s: usize, low: u8, first: u16) ->
     symbol_rules::ranges_fault(m, t, vs, s)
 }
 
-// 11 to 14 of the symbols below end, where those below base keep them and at most 80 are left.
+// 11 to 14 of the symbols below end, where those below base keep them and at most 72 are left.
 fn block_fault(m: &[u8], t: &[u8], vs: &[u8], base: usize, end: usize) -> Outcome
-    requires { ⌜ (base ≤ end) × (end ≤ base + 80) × (end < 65536) × (firstBelow (symbolFault (now m) (now t) (now vs)) base ≡ Clean) ⌝ }
+    requires { ⌜ (base ≤ end) × (end ≤ base + 72) × (end < 65536) × (firstBelow (symbolFault (now m) (now t) (now vs)) base ≡ Clean) ⌝ }
     ensures { λ r. ⌜ r ≡ firstBelow (symbolFault (now (m .entry)) (now (t .entry)) (now (vs .entry))) end ⌝ }
 {
-    let mut low = [0u8; 80];
+    let mut low = [0u8; 72];
     let selects = fields::selects(m);
     let selects_at = fields::start(m, 4);
     for k in 0..selects {
         let i = place(fields::target_from(m, selects_at, k), base);
-        if i < 80 {
+        if i < 72 {
             low[i] = raised(m, t, vs, k, low[i]);
         }
     }
     let ranges = fields::ranges(m);
     for r in 0..ranges {
         let i = place(fields::range_symbol(m, r), base);
-        if i < 80 {
+        if i < 72 {
             low[i] = low[i] % 4 + 4;
         }
     }
-    let mut first = [0u16; 80];
+    let mut first = [0u16; 72];
     let defaults = fields::defaults(m);
     let defaults_at = fields::start(m, 3);
     for j in 0..defaults {
         let d = defaults - 1 - j;
         let i = place(fields::default_symbol_from(m, defaults_at, d), base);
-        if i < 80 {
+        if i < 72 {
             first[i] = covered(m, vs, d, first[i]);
         }
     }
@@ -142,8 +142,8 @@ pub fn fault(m: &[u8], t: &[u8], vs: &[u8]) -> Outcome
 {
     let n = fields::symbols(m);
     let mut base: usize = 0;
-    while 80 < n - base {
-        let end = base + 80;
+    while 72 < n - base {
+        let end = base + 72;
         let at = block_fault(m, t, vs, base, end);
         if let Outcome::Fault(_, _, _) = at {
             return at;

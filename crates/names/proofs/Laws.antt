@@ -126,9 +126,9 @@ module _ (m : List ℕ) (base : ℕ) (w : List ℕ) where
 
 -- THE ROOMS of a block: before the first turn, and after that of its name k, whose key is x
 module _ (m : List ℕ) (base : ℕ) where
-  pub no-heads : Headed m base (replicate 64 0) 0
+  pub no-heads : Headed m base (replicate 128 0) 0
   unfolding lastWith
-  no-heads b l = getD-replicate 64 b 0 0 l
+  no-heads b l = getD-replicate 128 b 0 0 l
 
   pub no-spans : Fits (replicate 256 240)
   no-spans b l = rw (getD-replicate {A = ℕ} 256 b 240 0 l) (omega arith)
@@ -146,7 +146,7 @@ module _ (m : List ℕ) (base : ℕ) where
         step false g = getD-set-other heads h b (suc k) 0 (λ u. eqb-false _ _ g (sym (u ∙ eh))) ∙ all b n
 
     pub linked-more :
-        (heads nexts : List ℕ) {h v : ℕ} → h ≡ linkOf x → h < 64 → v ≡ getD heads h 0 → k < length nexts → Headed m base heads k → Linked m base nexts k
+        (heads nexts : List ℕ) {h v : ℕ} → h ≡ linkOf x → h < 128 → v ≡ getD heads h 0 → k < length nexts → Headed m base heads k → Linked m base nexts k
         → Linked m base (set nexts k v) (k + 1)
     linked-more heads nexts {h} {v} e lh ev l headed all =
         below-more (λ j. getD (set nexts k v) j 0 ≡ lastWith (linkAt m base) (linkAt m base j) j) k
@@ -182,13 +182,13 @@ module _ (m : List ℕ) (base : ℕ) where
       let t : spanned (getD spans (slotOf x) 0) (tagOf x) ≡ true = rw (z, ← ex) at (ax j l) in
       true≢false (sym t ∙ rw (eh, eg, f) at (sym eq))
 
-pub link-is : (x : ℕ) {h : ℕ} → h ≡ slotOf x → h / 4 ≡ linkOf x
+pub link-is : (x : ℕ) {h : ℕ} → h ≡ slotOf x → h / 2 ≡ linkOf x
 link-is x e = rw e
 
 -- where a walk for e's name w begins
 pub headed-at : (m : List ℕ) (base e : ℕ) (heads : List ℕ) (n : ℕ) {w : List ℕ} {h : ℕ} → Headed m base heads n → h ≡ slotOf (nameKey m e) → w ≡ spelledName m e
-    → getD heads (h / 4) 0 ≡ lastWith (linkAt m base) (linkOf (keyOf w)) n
-headed-at m base e heads n {w} {h} all eh ew = all (h / 4) (omega (arith, eh)) ∙ rw (ew, link-is (nameKey m e) eh)
+    → getD heads (h / 2) 0 ≡ lastWith (linkAt m base) (linkOf (keyOf w)) n
+headed-at m base e heads n {w} {h} all eh ew = all (h / 2) (omega (arith, eh)) ∙ rw (ew, link-is (nameKey m e) eh)
 
 -- every earlier name is another: so the name is new
 pub all-new : (m : List ℕ) (s : ℕ) → ((e : ℕ) → e < s → otherName m s e ≡ true) → newName m s ≡ true

@@ -27,7 +27,7 @@ abbrev pub tagOf : ℕ → ℕ
 tagOf x = min (x / 4294967296 % 16) 14
 
 abbrev pub linkOf : ℕ → ℕ
-linkOf x = slotOf x / 4
+linkOf x = slotOf x / 2
 
 -- a span is 16 times its lowest tag, plus how far it goes on; one that starts at 15 has no tag
 abbrev pub spanned : ℕ → ℕ → Bool
@@ -56,7 +56,7 @@ module _ (m : List ℕ) (base : ℕ) where
 
   -- each link starts at the last of them
   abbrev pub Headed : List ℕ → ℕ → Type 0
-  Headed heads k = (b : ℕ) → b < 64 → getD heads b 0 ≡ lastWith linkAt b k
+  Headed heads k = (b : ℕ) → b < 128 → getD heads b 0 ≡ lastWith linkAt b k
 
   -- each of them has its tag in its span
   abbrev pub Tagged : List ℕ → ℕ → Type 0

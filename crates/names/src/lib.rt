@@ -1,4 +1,4 @@
-// The symbol records in order, each name against all before it, by blocks of 160.
+// The symbol records in order, each name against all before it, by blocks of 152.
 //
 // Total over any bytes. The names of a block are linked by a key; then one pass over all names up to the block's end looks each up:
 // names are compared only where a span of tags has the key's own.
@@ -121,12 +121,12 @@ fn seen(
     texts: usize,
     base: usize,
     n: usize,
-    nexts: &[u8; 160],
+    nexts: &[u8; 152],
     name: &[u8],
     from: usize,
     after: usize,
 ) -> bool
-    requires { ⌜ (symbols ≡ startOf (now m) 1) × (symbols < 65536) × (texts ≡ textStart (now m)) × (texts < 65536) × (base < 65536) × (n ≤ 160) × Linked (now m) base (now nexts) n × (from ≡ lastWith (linkAt (now m) base) (linkOf (keyOf (now name))) n) ⌝ }
+    requires { ⌜ (symbols ≡ startOf (now m) 1) × (symbols < 65536) × (texts ≡ textStart (now m)) × (texts < 65536) × (base < 65536) × (n ≤ 152) × Linked (now m) base (now nexts) n × (from ≡ lastWith (linkAt (now m) base) (linkOf (keyOf (now name))) n) ⌝ }
     ensures { λ r. ⌜ (r ≡ false → (j : ℕ) → after ≤ j → j < n → sameText (now (name .entry)) (spelledName (now (m .entry)) (base + j)) ≡ false) ⌝ }
 {
     let mut c = from;
@@ -147,20 +147,20 @@ fn known(
     texts: usize,
     base: usize,
     n: usize,
-    heads: &[u8; 64],
-    nexts: &[u8; 160],
+    heads: &[u8; 128],
+    nexts: &[u8; 152],
     e: usize,
     slot: usize,
     maybe: bool,
 ) -> bool
-    requires { ⌜ (symbols ≡ startOf (now m) 1) × (symbols < 65536) × (texts ≡ textStart (now m)) × (texts < 65536) × (base < 65536) × (n ≤ 160) × (e < 131072) × Linked (now m) base (now nexts) n × Headed (now m) base (now heads) n × (slot ≡ slotOf (nameKey (now m) e)) × (maybe ≡ false → (j : ℕ) → j < n → nameKey (now m) (base + j) ≡ nameKey (now m) e → ⊥) ⌝ }
+    requires { ⌜ (symbols ≡ startOf (now m) 1) × (symbols < 65536) × (texts ≡ textStart (now m)) × (texts < 65536) × (base < 65536) × (n ≤ 152) × (e < 131072) × Linked (now m) base (now nexts) n × Headed (now m) base (now heads) n × (slot ≡ slotOf (nameKey (now m) e)) × (maybe ≡ false → (j : ℕ) → j < n → nameKey (now m) (base + j) ≡ nameKey (now m) e → ⊥) ⌝ }
     ensures { λ r. ⌜ (r ≡ false → (j : ℕ) → e < base + j → j < n → otherName (now (m .entry)) (base + j) e ≡ true) ⌝ }
 {
     if !maybe {
         return false;
     }
     let name = fields::name_from(m, symbols, texts, e);
-    let from = raw::wide(heads[slot / 4]);
+    let from = raw::wide(heads[slot / 2]);
     if e < base {
         return seen(m, symbols, texts, base, n, nexts, name, from, 0);
     }
@@ -169,18 +169,18 @@ fn known(
 
 // Whether each of the n names from base on is new.
 fn fresh(m: &[u8], base: usize, n: usize) -> bool
-    requires { ⌜ (base < 65536) × (n ≤ 160) ⌝ }
+    requires { ⌜ (base < 65536) × (n ≤ 152) ⌝ }
     ensures { λ r. ⌜ (r ≡ true → (s : ℕ) → base ≤ s → s < base + n → newName (now (m .entry)) s ≡ true) ⌝ }
 {
-    let mut heads = [0u8; 64];
+    let mut heads = [0u8; 128];
     let mut spans_of = [240u8; 256];
-    let mut nexts = [0u8; 160];
+    let mut nexts = [0u8; 152];
     for k in 0..n {
         let x = name_key(m, base + k);
         let h = slot(x);
         let g = tag(x);
-        nexts[k] = heads[h / 4];
-        heads[h / 4] = (k + 1) as u8;
+        nexts[k] = heads[h / 2];
+        heads[h / 2] = (k + 1) as u8;
         spans_of[h] = widened(spans_of[h], g);
     }
     let symbols = fields::start(m, 1);
@@ -225,9 +225,9 @@ fn block_fault(m: &[u8], base: usize, end: usize, new: bool) -> Outcome
 // Where the block from base on ends.
 fn end_of(base: usize, n: usize) -> usize
     requires { ⌜ (base < n) × (n < 65536) ⌝ }
-    ensures { λ r. ⌜ (base < r) × (r ≤ n) × (r ≤ base + 160) ⌝ }
+    ensures { λ r. ⌜ (base < r) × (r ≤ n) × (r ≤ base + 152) ⌝ }
 {
-    if n - base < 160 { n } else { base + 160 }
+    if n - base < 152 { n } else { base + 152 }
 }
 
 // 3: the first malformed symbol.

@@ -16,6 +16,7 @@ fn room() -> [u8; 131072]
     [0; 131072]
 }
 
+// A number and a space.
 fn number(n: u64) {
     io::print_decimal(STDOUT_FILENO, n);
     io::write_all(STDOUT_FILENO, b" ");
@@ -30,6 +31,7 @@ fn bytes(s: &[u8]) {
     }
 }
 
+// The three numbers that an outcome is answered with.
 fn numbers(o: Outcome) {
     match o {
         Outcome::Clean => {
@@ -45,6 +47,7 @@ fn numbers(o: Outcome) {
     }
 }
 
+// The answer of the table check, and the node work afterwards.
 fn table_case(model: &[u8], table: &[u8], work: &mut [u8]) {
     let o = rules::check(model, table, work);
     numbers(o);
@@ -52,6 +55,7 @@ fn table_case(model: &[u8], table: &[u8], work: &mut [u8]) {
     io::write_all(STDOUT_FILENO, b"/");
 }
 
+// The answer of the finding check, and both rooms afterwards.
 fn finding_case(model: &[u8], finding: &[u8], work: &mut [u8], marks: &mut [u8]) {
     let o = findings::check(model, finding, work, marks);
     numbers(o);
@@ -60,6 +64,7 @@ fn finding_case(model: &[u8], finding: &[u8], work: &mut [u8], marks: &mut [u8])
     bytes(marks);
 }
 
+// What a case of this kind answers.
 fn run_case(
     kind: u32,
     index: usize,
@@ -135,6 +140,7 @@ fn one_case() -> bool {
     true
 }
 
+// Runs a million cases at most.
 fn main() {
     let mut turns: u64 = 1000000;
     while turns > 0 && one_case() {

@@ -32,19 +32,19 @@ use Rattle.fields.proofs.start.Reads as start-reads
 use Rattle.fields.proofs.target_from.Reads as target-from-reads
 
 abbrev Inv-loop : tie.InvT-loop
-Inv-loop m t vs base end low₀ selects selects-at k₀ low k = (k ≤ selects) × (length low ≡ 80) × Rows (lowerStep m (given m t vs)) k base low
+Inv-loop m t vs base end low₀ selects selects-at k₀ low k = (k ≤ selects) × (length low ≡ 72) × Rows (lowerStep m (given m t vs)) k base low
 
 abbrev μ-loop : tie.MeasureT-loop
 μ-loop m t vs base end low₀ selects selects-at k₀ low k = selects - k
 
 abbrev Inv-loop2 : tie.InvT-loop2
-Inv-loop2 m t vs base end low₀ selects selects-at ranges r₀ low r = (r ≤ ranges) × (length low ≡ 80) × Marked m t vs r base low
+Inv-loop2 m t vs base end low₀ selects selects-at ranges r₀ low r = (r ≤ ranges) × (length low ≡ 72) × Marked m t vs r base low
 
 abbrev μ-loop2 : tie.MeasureT-loop2
 μ-loop2 m t vs base end low₀ selects selects-at ranges r₀ low r = ranges - r
 
 abbrev Inv-loop3 : tie.InvT-loop3
-Inv-loop3 m t vs base end low selects selects-at ranges first₀ defaults defaults-at j₀ first j = (j ≤ defaults) × (length first ≡ 80) × Rows (defaultStep m (conditionValue m vs) suc) j base first
+Inv-loop3 m t vs base end low selects selects-at ranges first₀ defaults defaults-at j₀ first j = (j ≤ defaults) × (length first ≡ 72) × Rows (defaultStep m (conditionValue m vs) suc) j base first
 
 abbrev μ-loop3 : tie.MeasureT-loop3
 μ-loop3 m t vs base end low selects selects-at ranges first₀ defaults defaults-at j₀ first j = defaults - j

@@ -39,7 +39,7 @@ enum-told : tie.Need-enum-told Inv-loop μ-loop
 enum-told c = search needs
 
 returns : tie.Need-returns Inv-loop μ-loop
-returns c = rw (c .before .before .before .before .before .symbols .ensures .0) at (block-fault (symbolFault (c .before .before .before .before .before .before .before .before .before .args .m .now) (c .before .before .before .before .before .before .before .before .before .args .t .now) (c .before .before .before .before .before .before .before .before .before .args .vs .now)) (c .before .before .before .before .before .symbols .result) (c .before .before .before .before .loop .base + 80) (c .before .before .block-fault .ensures) (c .enum-told .given .1) (omega arith))
+returns c = rw (c .before .before .before .before .before .symbols .ensures .0) at (block-fault (symbolFault (c .before .before .before .before .before .before .before .before .before .args .m .now) (c .before .before .before .before .before .before .before .before .before .args .t .now) (c .before .before .before .before .before .before .before .before .before .args .vs .now)) (c .before .before .before .before .before .symbols .result) (c .before .before .before .before .loop .base + 72) (c .before .before .block-fault .ensures) (c .enum-told .given .1) (omega arith))
 
 enum-told-2 : tie.Need-enum-told-2 Inv-loop μ-loop
 enum-told-2 c = search needs

@@ -24,7 +24,7 @@ use Rattle.names.proofs.tag.Reads as tag-reads
 use Rattle.names.proofs.widened.Reads as widened-reads
 
 abbrev Inv-loop : tie.InvT-loop
-Inv-loop m base n heads₀ spans-of₀ nexts₀ k₀ heads spans-of nexts k = (k ≤ n) × (length heads ≡ 64) × (length spans-of ≡ 256) × (length nexts ≡ 160) × Headed m base heads k × Linked m base nexts k × Fits spans-of × Tagged m base spans-of k
+Inv-loop m base n heads₀ spans-of₀ nexts₀ k₀ heads spans-of nexts k = (k ≤ n) × (length heads ≡ 128) × (length spans-of ≡ 256) × (length nexts ≡ 152) × Headed m base heads k × Linked m base nexts k × Fits spans-of × Tagged m base spans-of k
 
 abbrev μ-loop : tie.MeasureT-loop
 μ-loop m base n heads₀ spans-of₀ nexts₀ k₀ heads spans-of nexts k = n - k
