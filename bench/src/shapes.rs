@@ -82,6 +82,20 @@ pub const GROWTH: [usize; 4] = [8192, 16384, 32768, FULL];
 /// The booleans of a complete clearance.
 const BOOLEANS: u16 = 13;
 
+/// As many booleans as fit, all members of one choice, in a mixed order.
+pub fn member_book() -> Sketch {
+    let count = 5000u32;
+    let mut sketch = leaves(0);
+    for symbol in 0..count {
+        let letters =
+            [symbol / 676, symbol / 26 % 26, symbol % 26].map(|at| (b'A' + at as u8) as char);
+        sketch.symbol(0, &letters.iter().collect::<String>(), 1, 1);
+    }
+    let mixed = (0..count).map(|at| (at * 2467 % count) as u16);
+    sketch.choice(0, 0, 1, &mixed.collect::<Vec<_>>());
+    sketch
+}
+
 /// The first nodes of a book: n, y, and one for each symbol.
 fn leaves(symbols: u16) -> Sketch {
     let mut sketch = Sketch::default();

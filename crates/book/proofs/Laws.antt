@@ -34,7 +34,7 @@ members-fit m small h c lt =
     let choices-clean = clean-all (sectionAfter m) 6 h 5 (omega arith) in
     let choice-clean = clean-all (recordAt m 6) (choices m) choices-clean c lt in
     let ok : choiceOk m c ≡ true = not-false _ (when-iff _ _ (a-fault 3 6 c) .0 choice-clean) in
-    omega (arith, choice-ends m c ok, half-small m small 30)
+    (choice-ends m c ok, half-small m small 30)
 
 -- THE NAME: of a bad book, of no symbol, of a symbol
 empty-part : (m : List ℕ) → part m 0 0 ≡ []

@@ -1,12 +1,12 @@
 -- `book::choice_members_fault` meets its contract: it goes on while every member is well formed, and stops at the first that is not.
-use Rattle.meaning.specs.Book.{choiceMembersFault, memberAt}
-use Rattle.meaning.specs.Base.{firstBelow}
-use Rattle.meaning.specs.declared.Outcome.the-variants.{Clean}
-use native.Mathlib.Omega.{arith}
-use mathlib.Core.Path.{_≡_}
-use Prim.Native.Nat.{_≤_, _-_}
-use Rattle.meaning.proofs.First.{clean-none, clean-more, place-fault}
 use Rattle.meaning.proofs.Folds.{at-end}
+use Rattle.meaning.proofs.First.{clean-none, clean-more, place-fault}
+use Prim.Native.Nat.{_≤_, _-_}
+use mathlib.Core.Path.{_≡_}
+use native.Mathlib.Omega.{arith}
+use Rattle.meaning.specs.declared.Outcome.the-variants.{Clean}
+use Rattle.meaning.specs.Base.{firstBelow}
+use Rattle.meaning.specs.Book.{choiceMembersFault, memberAt}
 use borrow.Author.Needs.{needs}
 use Rattle.book.proofs.choice_members_fault.Statement.{statement}
 use Rattle.book.proofs.choice_members_fault.Tie as tie
@@ -16,10 +16,10 @@ use Rattle.book.proofs.member_at.Reads as member-at-reads
 use Rattle.fields.proofs.member_count.Reads as member-count-reads
 
 abbrev Inv-loop : tie.InvT-loop
-Inv-loop m c n j₀ j = (j ≤ n) × (firstBelow (memberAt m c) j ≡ Clean)
+Inv-loop m c new n j₀ j = (j ≤ n) × (firstBelow (memberAt m c) j ≡ Clean)
 
 abbrev μ-loop : tie.MeasureT-loop
-μ-loop m c n j₀ j = n - j
+μ-loop m c new n j₀ j = n - j
 
 member-count-requires : tie.Need-member-count-requires Inv-loop μ-loop
 member-count-requires c κs = search needs
@@ -28,7 +28,7 @@ loop-holds : tie.Need-loop-holds Inv-loop μ-loop
 loop-holds c = (omega arith, clean-none _)
 
 member-at-requires : tie.Need-member-at-requires Inv-loop μ-loop
-member-at-requires c κs = search needs
+member-at-requires c κs = (c .before .before .before .before .pre .0, omega (arith, c .before .before .before .before .pre .1, c .before .before .member-count .ensures .0), c .before .before .before .before .pre .2, c .before .before .before .before .pre .3)
 
 enum-told : tie.Need-enum-told Inv-loop μ-loop
 enum-told c = search needs
