@@ -12,7 +12,7 @@ use second::sketch::{self, Value};
 use second::Answer;
 use shapes::{
     boolean_book, chain_book, choice_book, equality_book, full_boolean_book, member_book,
-    tristate_book, GROWTH, SHAPES, USUAL,
+    range_book, tristate_book, GROWTH, SHAPES, USUAL,
 };
 use std::hint::black_box;
 use std::time::{Duration, Instant};
@@ -136,10 +136,15 @@ fn tables() {
         assert_eq!(model.len(), shape.bytes);
         line(what, counts, model.len(), &table(&model, &values, shape.nodes));
     }
-    let sketch = member_book();
-    let (model, counts) = (sketch.bytes(), sketch.counts());
-    let values = sketch::table(&vec![Value::Three(0); counts[0]]);
-    line("table: f: the most members", counts, model.len(), &table(&model, &values, counts[1]));
+    let books = [
+        ("table: f: the most members", member_book(), Value::Three(0)),
+        ("table: g: the most ranges", range_book(), Value::Int(1)),
+    ];
+    for (what, sketch, value) in books {
+        let (model, counts) = (sketch.bytes(), sketch.counts());
+        let values = sketch::table(&vec![value; counts[0]]);
+        line(what, counts, model.len(), &table(&model, &values, counts[1]));
+    }
     let big = Big::new(&USUAL, SEED);
     let model = big.model();
     line(

@@ -86,14 +86,29 @@ const BOOLEANS: u16 = 13;
 pub fn member_book() -> Sketch {
     let count = 5000u32;
     let mut sketch = leaves(0);
-    for symbol in 0..count {
-        let letters =
-            [symbol / 676, symbol / 26 % 26, symbol % 26].map(|at| (b'A' + at as u8) as char);
-        sketch.symbol(0, &letters.iter().collect::<String>(), 1, 1);
-    }
+    (0..count).for_each(|symbol| _ = sketch.symbol(0, &three_letters(symbol), 1, 1));
     let mixed = (0..count).map(|at| (at * 2467 % count) as u16);
     sketch.choice(0, 0, 1, &mixed.collect::<Vec<_>>());
     sketch
+}
+
+/// As many ints as fit, each with a range, in a mixed order.
+pub fn range_book() -> Sketch {
+    let count = 3400u32;
+    let mut sketch = leaves(0);
+    let (low, high) = (sketch.int(-5), sketch.int(5));
+    (0..count).for_each(|symbol| _ = sketch.symbol(3, &three_letters(symbol), 1, 1));
+    let mixed = (0..count).map(|at| [(at * 2467 % count) as u16, low, high, 1]);
+    sketch.ranges.extend(mixed);
+    sketch
+}
+
+/// The name with this number, of three letters.
+fn three_letters(number: u32) -> String {
+    [number / 676, number / 26 % 26, number % 26]
+        .map(|at| (b'A' + at as u8) as char)
+        .iter()
+        .collect()
 }
 
 /// The first nodes of a book: n, y, and one for each symbol.

@@ -1,8 +1,11 @@
 -- Leaves compared by kind and content, and rules 13 and 14 over what was read. Assumes nothing.
-use mathlib.Core.Path.{_≡_, refl, _∙_, ap, ap₂}
+use mathlib.Core.Path.{_≡_, refl, sym, _∙_, ap, ap₂}
+use mathlib.Core.Logic.{_⊎_, ⊎-elim}
 use mathlib.Core.Bool.{Bool, true, false, _&&_, not, and-false}
 use mathlib.Core.List.{List, _∷_, []}
-use Prim.Native.Nat.{ℕ}
+use Prim.Native.Nat.{ℕ, _+_, _≤_}
+use native.Mathlib.Nat.{eq-or-lt-of-le, le-of-suc-le-suc}
+use native.Mathlib.Numerals.{add-one}
 use native.Mathlib.Omega.{arith}
 use lib.Dec.{eqb, leb, ltb}
 use lib.IntN.{ℤ}
@@ -27,6 +30,7 @@ use Rattle.spell.specs.Leaves.{leafContent, leafOfValue}
 use Rattle.spell.proofs.Leaf.{the-type}
 use Rattle.values.proofs.Laws.{as-leaf}
 use Rattle.symbol_rules.specs.Leaves.{leafInt, leafHex, leafOrdered, leafWithin}
+use Rattle.symbol_rules.specs.Ranges.{KeptAt, KeptBelow, BrokenAt}
 
 -- two signed numbers that fit 32 bits, compared
 pub le-int : (a b : ℤ) → SFits w32 a → SFits w32 b → leZ (toZ w32 (ofZ w32 a)) (toZ w32 (ofZ w32 b)) ≡ leZ a b
@@ -175,3 +179,24 @@ pub range-is :
 unfolding test14
 range-is m t vs s r v low high {x = x} ex xs e ec eq ev el eh =
     e ∙ rw (← ex, xs, eq-eqb s s refl, ec, eq, within-leaf m t low high v, ev, el, eh)
+
+-- THE FIRST SYMBOL WITH A BROKEN RANGE: one range, and one more
+module _ (m t vs : List ℕ) (r : ℕ) {x : ℕ} (ex : x ≡ rangeSymbol m r) where
+  pub kept-before : (off : ℕ) → off ≤ x → KeptAt m t vs off r
+  kept-before off l s h = sym (range-off m t vs s r ex (λ e. absurd (omega arith)))
+
+  pub kept-there : (off : ℕ) → test14 m t vs x r ≡ Clean → KeptAt m t vs off r
+  kept-there off e s h = by (eqb x s) refl
+    where
+      by : (b : Bool) → eqb x s ≡ b → test14 m t vs s r ≡ Clean
+      by true q = let z : x ≡ s = eqb-true x s q in rw z at e
+      by false q = sym (range-off m t vs s r ex (eqb-false x s q))
+
+module _ (m t vs : List ℕ) (r : ℕ) {first x : ℕ} (le : x ≤ first) (kept : KeptAt m t vs x r) (which : (x ≡ first) ⊎ (test14 m t vs x r ≡ Clean → ⊥)) where
+  pub kept-more : KeptBelow m t vs r first → KeptBelow m t vs (r + 1) x
+  kept-more all q l s h =
+      ⊎-elim (λ (e : q ≡ r). rw e (kept s h)) (λ k. all q k s (omega arith)) (eq-or-lt-of-le (le-of-suc-le-suc (rw (add-one r) at l)))
+
+  pub broken-more : BrokenAt m t vs r first → BrokenAt m t vs (r + 1) x
+  broken-more old lt clean =
+      ⊎-elim (λ e. old (omega arith) (λ q l. rw (← e) (clean q (omega arith)))) (λ no. no (clean r (omega arith))) which

@@ -2,10 +2,11 @@
 //
 // Total over any bytes: `vs` has the nodes' values, and the caller knows a symbol's Default and Lower. A symbol's number is below 2^16.
 ghost use mathlib.Core.Path.{_≡_};
-ghost use Prim.Native.Nat.{_<_};
+ghost use mathlib.Core.Logic.{_⊎_};
+ghost use Prim.Native.Nat.{_<_, _≤_};
 ghost use lib.Dec.{leb};
 ghost use lib.Signed.{leZ};
-ghost use Rattle.meaning.specs.declared.Outcome.the-variants.{Fault};
+ghost use Rattle.meaning.specs.declared.Outcome.the-variants.{Clean, Fault};
 ghost use Rattle.meaning.specs.Base.{when, firstBelow};
 ghost use Rattle.meaning.specs.Table.{contentIn, contentOf, valueOf, aThree, aText};
 ghost use Rattle.meaning.specs.Values.{promptValue};
@@ -13,6 +14,7 @@ ghost use Rattle.meaning.specs.Book.{ranges as rangesOf};
 ghost use Rattle.meaning.specs.Rules.{typeFits, sameContent, broken13Content, threeTests, test10, test14};
 ghost use Rattle.spell.specs.Leaves.{leafContent};
 ghost use Rattle.symbol_rules.specs.Leaves.{leafInt, leafHex, leafOrdered, leafWithin};
+ghost use Rattle.symbol_rules.specs.Ranges.{KeptAt, KeptBelow, BrokenAt};
 use meaning::Outcome;
 use meaning::Value;
 use spell::Leaf;
@@ -177,4 +179,32 @@ pub fn ranges_fault(m: &[u8], t: &[u8], vs: &[u8], s: usize) -> Outcome
         }
     }
     Outcome::Clean
+}
+
+// The symbol of range r where that one is broken and below `first`, else `first`.
+fn lowered(m: &[u8], t: &[u8], vs: &[u8], r: usize, first: usize) -> usize
+    requires { ⌜ (r < 65536) × (first ≤ 65536) ⌝ }
+    ensures { λ x. ⌜ (x ≤ first) × KeptAt (now (m .entry)) (now (t .entry)) (now (vs .entry)) x r × ((x ≡ first) ⊎ (test14 (now (m .entry)) (now (t .entry)) (now (vs .entry)) x r ≡ Clean → ⊥)) ⌝ }
+{
+    let s = fields::range_symbol(m, r);
+    if first <= s {
+        return first;
+    }
+    let at = range_at(m, t, vs, s, r);
+    if let Outcome::Fault(_, _, _) = at {
+        return s;
+    }
+    first
+}
+
+// The first symbol that has a broken range; 65,536 if there is none.
+pub fn first_off(m: &[u8], t: &[u8], vs: &[u8]) -> usize
+    ensures { λ x. ⌜ (x ≤ 65536) × KeptBelow (now (m .entry)) (now (t .entry)) (now (vs .entry)) (rangesOf (now (m .entry))) x × BrokenAt (now (m .entry)) (now (t .entry)) (now (vs .entry)) (rangesOf (now (m .entry))) x ⌝ }
+{
+    let n = fields::ranges(m);
+    let mut first: usize = 65536;
+    for r in 0..n {
+        first = lowered(m, t, vs, r, first);
+    }
+    first
 }

@@ -1,76 +1,58 @@
--- `blocks::fault` meets its contract: what a block answers is the answer if it is a fault, and the last block ends at the last symbol.
-use Prim.Native.Nat.{_≤_, _+_, _-_}
-use Rattle.meaning.proofs.First.{clean-none, block-fault}
-use Rattle.meaning.specs.Rules.{symbolFault}
-use Rattle.meaning.specs.Base.{firstBelow}
-use Rattle.meaning.specs.declared.Outcome.the-variants.{Clean}
+-- `blocks::fault` meets its contract: below the first symbol that breaks a range rules 11 to 13 decide, at it rule 14 does if they are kept.
+use Rattle.blocks.proofs.Laws.{own-answers, all-keep, range-answers}
 use native.Mathlib.Omega.{arith}
-use mathlib.Core.Path.{_≡_, sym, _∙_}
 use borrow.Author.Needs.{needs}
 use Rattle.blocks.proofs.fault.Statement.{statement}
 use Rattle.blocks.proofs.fault.Tie as tie
 use Rattle.blocks.proofs.fault.Reads as reads
 use Rattle.blocks.proofs.fault.Lts as lts
-use Rattle.blocks.proofs.block_fault.Reads as block-fault-reads
+use Rattle.blocks.proofs.end_at.Reads as end-at-reads
+use Rattle.blocks.proofs.own_faults.Reads as own-faults-reads
 use Rattle.fields.proofs.symbols.Reads as symbols-reads
+use Rattle.symbol_rules.proofs.first_off.Reads as first-off-reads
+use Rattle.symbol_rules.proofs.ranges_fault.Reads as ranges-fault-reads
 
-abbrev Inv-loop : tie.InvT-loop
-Inv-loop m t vs n base₀ base = (base ≤ n) × (firstBelow (symbolFault m t vs) base ≡ Clean)
-
-abbrev μ-loop : tie.MeasureT-loop
-μ-loop m t vs n base₀ base = n - base
-
-symbols-requires : tie.Need-symbols-requires Inv-loop μ-loop
+symbols-requires : tie.Need-symbols-requires
 symbols-requires c κs = search needs
 
-loop-holds : tie.Need-loop-holds Inv-loop μ-loop
-loop-holds c = (omega arith, clean-none _)
+first-off-requires : tie.Need-first-off-requires
+first-off-requires c κs = search needs
 
-sub-loop : tie.Need-sub-loop Inv-loop μ-loop
-sub-loop c = search needs
+end-at-requires : tie.Need-end-at-requires
+end-at-requires c κs = search needs
 
-add-end : tie.Need-add-end Inv-loop μ-loop
-add-end c = search needs
+own-faults-requires : tie.Need-own-faults-requires
+own-faults-requires c κs = omega (arith, c .before .before .symbols .ensures .1, c .end-at .ensures)
 
-block-fault-requires : tie.Need-block-fault-requires Inv-loop μ-loop
-block-fault-requires c κs = (omega arith, omega arith, omega arith, c .before .loop .inv .1)
-
-enum-told : tie.Need-enum-told Inv-loop μ-loop
+enum-told : tie.Need-enum-told
 enum-told c = search needs
 
-returns : tie.Need-returns Inv-loop μ-loop
-returns c = rw (c .before .before .before .before .before .symbols .ensures .0) at (block-fault (symbolFault (c .before .before .before .before .before .before .before .before .before .args .m .now) (c .before .before .before .before .before .before .before .before .before .args .t .now) (c .before .before .before .before .before .before .before .before .before .args .vs .now)) (c .before .before .before .before .before .symbols .result) (c .before .before .before .before .loop .base + 72) (c .before .before .block-fault .ensures) (c .enum-told .given .1) (omega arith))
+returns : tie.Need-returns
+returns c = rw (c .before .before .before .before .before .symbols .ensures .0) at (own-answers (c .before .before .before .before .before .before .before .before .before .args .m .now) (c .before .before .before .before .before .before .before .before .before .args .t .now) (c .before .before .before .before .before .before .before .before .before .args .vs .now) (c .before .before .before .before .before .symbols .result) (c .before .before .before .before .first-off .result) (c .before .before .before .before .first-off .ensures .1) (c .before .before .before .before .first-off .ensures .2) (c .before .before .before .before .before .symbols .ensures .1) (c .before .before .before .end-at .ensures) (c .before .before .own-faults .ensures) (c .enum-told .given .1))
 
-enum-told-2 : tie.Need-enum-told-2 Inv-loop μ-loop
+enum-told-2 : tie.Need-enum-told-2
 enum-told-2 c = search needs
 
-loop-less : tie.Need-loop-less Inv-loop μ-loop
-loop-less c = search needs
+returns-2 : tie.Need-returns-2
+returns-2 c = rw (c .before .before .before .before .before .before .symbols .ensures .0) at (all-keep (c .before .before .before .before .before .before .before .before .before .before .args .m .now) (c .before .before .before .before .before .before .before .before .before .before .args .t .now) (c .before .before .before .before .before .before .before .before .before .before .args .vs .now) (c .before .before .before .before .before .before .symbols .result) (c .before .before .before .before .before .first-off .result) (c .before .before .before .before .before .first-off .ensures .1) (c .before .before .before .before .before .first-off .ensures .2) (c .before .before .before .before .before .before .symbols .ensures .1) (c .before .before .before .before .end-at .ensures) (c .before .before .before .own-faults .ensures) (c .before .enum-told2 .given .1) (c .if1 .taken))
 
-loop-again : tie.Need-loop-again Inv-loop μ-loop
-loop-again c = (omega arith, sym (c .before .before .block-fault .ensures) ∙ c .enum-told2 .given .1)
+ranges-fault-requires : tie.Need-ranges-fault-requires
+ranges-fault-requires c κs = omega (arith, c .before .before .before .before .before .before .symbols .ensures .1)
 
-block-fault-requires-2 : tie.Need-block-fault-requires-2 Inv-loop μ-loop
-block-fault-requires-2 c κs = (omega arith, omega arith, omega arith, c .before .loop .inv .1)
-
-returns-2 : tie.Need-returns-2 Inv-loop μ-loop
-returns-2 c = rw (c .before .before .before .symbols .ensures .0) at (c .block-fault2 .ensures)
+returns-3 : tie.Need-returns-3
+returns-3 c = rw (c .before .before .before .before .before .before .before .symbols .ensures .0) at (range-answers (c .before .before .before .before .before .before .before .before .before .before .before .args .m .now) (c .before .before .before .before .before .before .before .before .before .before .before .args .t .now) (c .before .before .before .before .before .before .before .before .before .before .before .args .vs .now) (c .before .before .before .before .before .before .before .symbols .result) (c .before .before .before .before .before .before .first-off .result) (c .before .before .before .before .before .before .first-off .ensures .1) (c .before .before .before .before .before .before .first-off .ensures .2) (c .before .before .before .before .before .before .before .symbols .ensures .1) (c .before .before .before .before .before .end-at .ensures) (c .before .before .before .before .own-faults .ensures) (c .before .before .enum-told2 .given .1) (c .before .if1 .left) (c .ranges-fault .ensures))
 
 pub fault-spec : {M : Type 1} → statement M
 fault-spec =
     tie.close
     (tie.spec
-    Inv-loop
-    μ-loop
     symbols-requires
-    loop-holds
-    sub-loop
-    add-end
-    block-fault-requires
+    first-off-requires
+    end-at-requires
+    own-faults-requires
     enum-told
     returns
     enum-told-2
-    loop-less
-    loop-again
-    block-fault-requires-2
-    returns-2)
+    returns-2
+    ranges-fault-requires
+    returns-3)

@@ -1,6 +1,5 @@
 -- `members::place` meets its contract: it tests what the definition tests.
 use borrow.Author.Tests.{lt-ltb, le-ltb}
-use borrow.Author.Needs.{needs}
 use Rattle.members.proofs.place.Statement.{statement}
 use Rattle.members.proofs.place.Tie as tie
 use Rattle.members.proofs.place.Reads as reads
