@@ -14,12 +14,12 @@ use Rattle.meaning.specs.declared.Walked.the-variants.{Next, Malformed, Open}
 use Rattle.meaning.specs.Base.{when, orElse, answerOf}
 use Rattle.meaning.specs.Book.{symbols, bookFault}
 use Rattle.meaning.specs.Table.{tableFault}
-use Rattle.meaning.specs.Rules.{ruleFault, unmet, nodeRoomFault, refusal, verdict}
+use Rattle.meaning.specs.Rules.{ruleFault, unmet, nodeRoomFault, refusalIn, verdictIn, verdict}
 use Rattle.meaning.specs.Sets.{fullSets}
 use Rattle.meaning.specs.Clearance.{walkOf}
 use Rattle.meaning.specs.Findings.{selectOf, findingKind, headFault, witnessTable, witnessFault, walkFault, clearanceFault, symbolRoomFault, findingRefusal, bodyFault, findingOutcome}
 use Rattle.demands.specs.Broken.{Spot, typed, lower, upper, default, range, one, kind, mandatory, modules, ruleOf}
-use Rattle.demands.specs.Refused.{Between, TableNumber, FindingNumber}
+use Rattle.demands.specs.Refused.{Between, TableNumber, TableInNumber, FindingNumber}
 use Rattle.demands.proofs.Bools.{pick-both}
 use Rattle.demands.proofs.Faults.{Numbers, numbers-when, numbers-then, numbers-of, numbers-wide, numbers-answer}
 use Rattle.demands.proofs.BookParts.{book-search, book-cases}
@@ -68,22 +68,28 @@ pub rule-numbers : (m t : List ℕ) → Numbers (Between 10 18) (ruleFault m t)
 rule-numbers m t =
     record { has = λ n p s e. let h = first-broken m t n p s .0 e in subst (Between 10 18) (h .rule) (rule-between (h .spot)) }
 
--- THE TABLE CHECK
+-- THE TABLE CHECK: after the book, and with it
 module _ (m t : List ℕ) (room : ℕ) where
-  pub behind-book-numbers : Numbers (Between 5 7) (orElse (tableFault t (symbols m)) (nodeRoomFault m room))
-  behind-book-numbers =
+  pub refusal-in-numbers : Numbers (Between 5 7) (refusalIn m t room)
+  unfolding refusalIn
+  refusal-in-numbers =
       numbers-then _ _ (numbers-wide (λ k x. omega arith) (entry-numbers t (symbols m))) (numbers-wide (λ k x. omega arith) (node-room-numbers m room))
 
-  pub refusal-numbers : Numbers (Between 1 7) (refusal m t room)
-  unfolding refusal
-  refusal-numbers =
-      numbers-then _ _ (numbers-wide (λ k x. omega arith) (book-numbers m)) (numbers-wide (λ k x. omega arith) behind-book-numbers)
+  pub verdict-in-numbers : Numbers (λ n. Between 5 7 n ⊎ Between 10 18 n) (verdictIn m t room)
+  unfolding verdictIn
+  verdict-in-numbers =
+      numbers-then _ _ (numbers-wide (λ n x. inl x) refusal-in-numbers) (numbers-wide (λ n x. inr x) (rule-numbers m t))
 
-pub table-numbers : (m t : List ℕ) (room : ℕ) → TableNumber (answerOf (verdict m t room) .number)
-unfolding verdict
-table-numbers m t room =
-    numbers-answer {P = TableNumber} (verdict m t room) (inl (omega arith))
-    (numbers-then _ _ (numbers-wide (λ n x. inl (x .1)) (refusal-numbers m t room)) (numbers-wide (λ n x. inr x) (rule-numbers m t)))
+  pub table-in-numbers : TableInNumber (answerOf (verdictIn m t room) .number)
+  table-in-numbers =
+      numbers-answer {P = TableInNumber} (verdictIn m t room) (inl (omega arith)) (numbers-wide (λ n x. inr x) verdict-in-numbers)
+
+  pub table-numbers : TableNumber (answerOf (verdict m t room) .number)
+  unfolding verdict
+  table-numbers =
+      numbers-answer {P = TableNumber} (verdict m t room) (inl (omega arith))
+      (numbers-then _ _ (numbers-wide (λ n x. inl (omega (arith, x .1))) (book-numbers m))
+      (numbers-wide (λ n. ⊎-elim (λ x. inl (x .1)) (λ x. inr x)) verdict-in-numbers))
 
 -- THE FINDING CHECK: what a refusal, a witness, a clearance, and either body can answer
 abbrev pub OfRefusal : ℕ → Type 0

@@ -95,12 +95,15 @@ GoodHead m f =
 abbrev pub Admitted : List ℕ → List ℕ → ℕ → ℕ → Type 0
 Admitted m f nodeRoom symbolRoom = WellFormed m × (GoodHead m f × ((nodes m ≤ nodeRoom) × (symbols m ≤ symbolRoom)))
 
--- NUMBERS that the table check and the finding check answer
+-- NUMBERS that the table check, its part after the book, and the finding check answer
 abbrev pub Between : ℕ → ℕ → ℕ → Type 0
 Between low high n = (low ≤ n) × (n ≤ high)
 
 abbrev pub TableNumber : ℕ → Type 0
 TableNumber n = (n ≤ 7) ⊎ Between 10 18 n
+
+abbrev pub TableInNumber : ℕ → Type 0
+TableInNumber n = (n ≡ 0) ⊎ (Between 5 7 n ⊎ Between 10 18 n)
 
 abbrev pub FindingNumber : ℕ → Type 0
 FindingNumber n = (n ≤ 8) ⊎ (Between 10 18 n ⊎ Between 21 24 n)

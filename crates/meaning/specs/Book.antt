@@ -369,7 +369,13 @@ nameOf m s = ifClean (bookFault m) (pick (ltb s (symbols m)) (spelledName m s) [
 unfoldable pub namePlace : List ℕ → ℕ → ℕ
 namePlace m s = ifClean (bookFault m) (pick (ltb s (symbols m)) (4294967296 * nameStart m s + nameLength m s) 0) 0
 
+-- the same without a look at the book: the part is cut where the bytes end, so it lies in them whatever they are
+unfoldable pub namePlaceIn : List ℕ → ℕ → ℕ
+namePlaceIn m s =
+    let long = length (spelledName m s) in
+    pick (ltb s (symbols m)) (pick (eqb long 0) 0 (4294967296 * nameStart m s + long)) 0
+
 -- names every definition of this file: who says `unfolding openBook` has them all
 unfoldable pub openBook : Unit {0}
-unfolding start count endOf due byteIn halfIn otherName newName nameBytes digitsAlone nameOk symbolOk leafFits nodeFits nodeOk defaultOk selectOk boundOk rangeOk memberDue choiceOk newMember memberOk lengthFault chainAt endFault chainFault recordOk recordAt sectionFault unusedFault memberAt choiceMembersFault membersFault sectionAfter recordsFault modulesFault bookFault nameOf namePlace
+unfolding start count endOf due byteIn halfIn otherName newName nameBytes digitsAlone nameOk symbolOk leafFits nodeFits nodeOk defaultOk selectOk boundOk rangeOk memberDue choiceOk newMember memberOk lengthFault chainAt endFault chainFault recordOk recordAt sectionFault unusedFault memberAt choiceMembersFault membersFault sectionAfter recordsFault modulesFault bookFault nameOf namePlace namePlaceIn
 openBook = tt

@@ -202,7 +202,7 @@ module _ (m t : List ℕ) where
     unfoldable pub unmetIn : ℕ → Bool
     unmetIn k = exceeds (valueOf t (selectorOf m k)) (val vs (conditionOf m k)) (dependValue m vs (targetOf m k))
 
--- THE VERDICT
+-- WITH THE VALUES OF THE NODES
 unfoldable pub ruleFault : List ℕ → List ℕ → Outcome
 ruleFault m t = rulesFault m t (nodeValues m t)
 
@@ -213,21 +213,27 @@ unmet m t k = unmetIn m t (nodeValues m t) k
 unfoldable pub nodeRoomFault : List ℕ → ℕ → Outcome
 nodeRoomFault m room = when (ltb room (nodes m)) (Fault 7 (nodes m) 65535)
 
--- 1 to 7, for a node work of so many bytes
-unfoldable pub refusal : List ℕ → List ℕ → ℕ → Outcome
-refusal m t room =
-    let inRoom = nodeRoomFault m room in
-    let fromTable = orElse (tableFault t (symbols m)) inRoom in
-    orElse (bookFault m) fromTable
+-- AFTER THE BOOK. 5 to 7, for a node work of so many bytes
+unfoldable pub refusalIn : List ℕ → List ℕ → ℕ → Outcome
+refusalIn m t room = let inRoom = nodeRoomFault m room in orElse (tableFault t (symbols m)) inRoom
 
+-- 5 to 7 and 10 to 18
+unfoldable pub verdictIn : List ℕ → List ℕ → ℕ → Outcome
+verdictIn m t room = let rules = ruleFault m t in orElse (refusalIn m t room) rules
+
+-- the node work w afterwards: as it was where refused at 5 to 7, else each node's value, and the rest as it was
+unfoldable pub nodeWorkIn : List ℕ → List ℕ → List ℕ → List ℕ
+nodeWorkIn m t w = let filled = nodeValues m t ++ drop (nodes m) w in ifClean (refusalIn m t (length w)) filled w
+
+-- THE TABLE CHECK: the book first. 1 to 7 and 10 to 18
 unfoldable pub verdict : List ℕ → List ℕ → ℕ → Outcome
-verdict m t room = let rules = ruleFault m t in orElse (refusal m t room) rules
+verdict m t room = let inBook = verdictIn m t room in orElse (bookFault m) inBook
 
--- the node work w after the verdict: as it was where refused at 1 to 7, else each node's value, and the rest as it was
+-- the node work w afterwards: as it was where the book is refused
 unfoldable pub nodeWork : List ℕ → List ℕ → List ℕ → List ℕ
-nodeWork m t w = let filled = nodeValues m t ++ drop (nodes m) w in ifClean (refusal m t (length w)) filled w
+nodeWork m t w = let inBook = nodeWorkIn m t w in ifClean (bookFault m) inBook w
 
 -- opens this file and those under it: who says `unfolding openRules` can compute a verdict
 unfoldable pub openRules : Unit {0}
-unfolding openBase openBook openTable openSpell openValues atLeast threeTests test10 threeFault otherFault test14 symbolFault someOf ysOf msOf firstYes otherOf firstModule test15 test16 test17 choiceFault test18 rulesFault unmetIn ruleFault unmet nodeRoomFault refusal verdict nodeWork
+unfolding openBase openBook openTable openSpell openValues atLeast threeTests test10 threeFault otherFault test14 symbolFault someOf ysOf msOf firstYes otherOf firstModule test15 test16 test17 choiceFault test18 rulesFault unmetIn ruleFault unmet nodeRoomFault refusalIn verdictIn nodeWorkIn verdict nodeWork
 openRules = tt
