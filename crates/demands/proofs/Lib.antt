@@ -16,6 +16,7 @@ pub mod Rooms
 pub mod Numbers
 pub mod Refusals
 pub mod FindingRefusals
+pub mod InTurn
 pub mod Lifts
 pub mod Relate
 pub mod Tabulated
