@@ -1,11 +1,12 @@
 // The rules in order, and the table check.
 //
-// `check` is the table check: any bytes in, one outcome out, and the node work afterwards as document 01 owes it.
+// `check` is the table check: any bytes in, one outcome out, and the node work afterwards as document 01 owes it. `check_in` is what
+// it does after the book, for many tables of one book.
 ghost use mathlib.Core.Path.{_≡_};
 ghost use Rattle.meaning.specs.Base.{firstBelow};
 ghost use Rattle.meaning.specs.Book.{symbols as symbolsOf, choices as choicesOf};
 ghost use Rattle.meaning.specs.Rules.{test10, choiceFault, test18, rulesFault};
-ghost use Rattle.rules.specs.Checked.{Checked};
+ghost use Rattle.rules.specs.Checked.{Checked, CheckedIn};
 use meaning::Outcome;
 
 // 10: the first entry that does not fit its symbol's type.
@@ -69,14 +70,11 @@ pub fn fault(m: &[u8], t: &[u8], vs: &[u8]) -> Outcome
     modules_fault(m, t)
 }
 
-// The table check: 0 to 7 and 10 to 18. Refused at 1 to 7 the node work stays, else it has each node's value in front.
-pub fn check(model: &[u8], table: &[u8], work: &mut [u8]) -> Outcome
-    ensures { λ r. ⌜ Checked (now (model .entry)) (now (table .entry)) (now (work .entry)) r (now (work .exit)) ⌝ }
+// What the table check does after the book: 0, 5 to 7 and 10 to 18. Refused at 5 to 7 the node work stays, else it has each node's
+// value in front.
+pub fn check_in(model: &[u8], table: &[u8], work: &mut [u8]) -> Outcome
+    ensures { λ r. ⌜ CheckedIn (now (model .entry)) (now (table .entry)) (now (work .entry)) r (now (work .exit)) ⌝ }
 {
-    let book = book::fault(model);
-    if let Outcome::Fault(_, _, _) = book {
-        return book;
-    }
     let readable = entries::fault(table, fields::symbols(model));
     if let Outcome::Fault(_, _, _) = readable {
         return readable;
@@ -87,4 +85,15 @@ pub fn check(model: &[u8], table: &[u8], work: &mut [u8]) -> Outcome
     }
     values::fill(model, table, work);
     fault(model, table, &work[0..n])
+}
+
+// The table check: 0 to 7 and 10 to 18. Refused at 1 to 7 the node work stays, else it has each node's value in front.
+pub fn check(model: &[u8], table: &[u8], work: &mut [u8]) -> Outcome
+    ensures { λ r. ⌜ Checked (now (model .entry)) (now (table .entry)) (now (work .entry)) r (now (work .exit)) ⌝ }
+{
+    let book = book::fault(model);
+    if let Outcome::Fault(_, _, _) = book {
+        return book;
+    }
+    check_in(model, table, work)
 }
