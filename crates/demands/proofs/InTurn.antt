@@ -66,7 +66,7 @@ module _ (m : List ℕ) (s : ℕ) where
       let named = firstThree (leb (typeOf m s) 4) (nameOk m s) (newName m s) (ltb (promptOf m s) (nodes m)) (ltb (dependOf m s) (nodes m)) (w .symbol s lt) .1 in
       let n = nameLength m s in
       let inside =
-          firstThree (leb 1 n) (leb n 64) (leb (nameOffset m s + n) (texts m)) (nameBytes m (nameStart m s) n) (not (digitsAlone m (nameStart m s) n)) named in
+      firstThree (leb 1 n) (leb n 64) (leb (nameOffset m s + n) (texts m)) (nameBytes m (nameStart m s) n) (not (digitsAlone m (nameStart m s) n)) named in
       let some = leb-true 1 n (inside .0) in
       let ends = leb-true (nameOffset m s + n) (texts m) (inside .2) in
       (omega (arith, w .ended, w .whole, ends, length-take n (drop (nameStart m s) m), length-drop (nameStart m s) m), omega (arith, some))

@@ -7,13 +7,25 @@ use Rattle.tri.specs.Once.{Once, OnceIn}
 use Rattle.rules.proofs.Unique.{same-pair}
 use Rattle.plaitcrumb.proofs.plaitcrumb_check_table.Kinds as check-kinds
 use Rattle.plaitcrumb.proofs.plaitcrumb_check_table.Reads as check-reads
+use Rattle.plaitcrumb.proofs.plaitcrumb_check_book.Kinds as book-kinds
+use Rattle.plaitcrumb.proofs.plaitcrumb_check_book.Reads as book-reads
+use Rattle.plaitcrumb.proofs.plaitcrumb_check_table_in.Kinds as check-in-kinds
+use Rattle.plaitcrumb.proofs.plaitcrumb_check_table_in.Reads as check-in-reads
 use Rattle.plaitcrumb.proofs.plaitcrumb_check_finding.Kinds as finding-kinds
 use Rattle.plaitcrumb.proofs.plaitcrumb_check_finding.Reads as finding-reads
 use Rattle.plaitcrumb.proofs.plaitcrumb_name.Kinds as name-kinds
 use Rattle.plaitcrumb.proofs.plaitcrumb_name.Reads as name-reads
+use Rattle.plaitcrumb.proofs.plaitcrumb_name_in.Kinds as name-in-kinds
+use Rattle.plaitcrumb.proofs.plaitcrumb_name_in.Reads as name-in-reads
 
 pub check-table-once : OnceIn 3 check-kinds.ps check-kinds.r check-reads.Post {A = ℕ × List ℕ} (λ κs x s. (x, now (s .1 .1 .0)))
 check-table-once κs a x y s t p q = same-pair (p .0 ∙ sym (q .0)) (p .1 ∙ sym (q .1))
+
+pub check-book-once : Once 1 book-kinds.ps book-kinds.r book-reads.Post
+check-book-once κs a x y s t p q = p ∙ sym q
+
+pub check-table-in-once : OnceIn 3 check-in-kinds.ps check-in-kinds.r check-in-reads.Post {A = ℕ × List ℕ} (λ κs x s. (x, now (s .1 .1 .0)))
+check-table-in-once κs a x y s t p q = same-pair (p .0 ∙ sym (q .0)) (p .1 ∙ sym (q .1))
 
 -- the answer, the node work and the symbol work afterwards
 abbrev Left : Type 0
@@ -27,3 +39,6 @@ check-finding-once κs a x y s t p q = one (p .0 ∙ sym (q .0)) (p .1 ∙ sym (
 
 pub name-once : Once 1 name-kinds.ps name-kinds.r name-reads.Post
 name-once κs a x y s t p q = p ∙ sym q
+
+pub name-in-once : Once 1 name-in-kinds.ps name-in-kinds.r name-in-reads.Post
+name-in-once κs a x y s t p q = p ∙ sym q

@@ -4,8 +4,8 @@
 ghost use mathlib.Core.Path.{_≡_};
 ghost use lib.ListN.{length};
 ghost use Rattle.meaning.specs.Base.{answerOf, packed};
-ghost use Rattle.meaning.specs.Book.{namePlace};
-ghost use Rattle.meaning.specs.Rules.{verdict, nodeWork};
+ghost use Rattle.meaning.specs.Book.{bookFault, namePlace, namePlaceIn};
+ghost use Rattle.meaning.specs.Rules.{verdictIn, nodeWorkIn, verdict, nodeWork};
 ghost use Rattle.meaning.specs.Findings.{findingOutcome, findingNodeWork, findingSymbolWork};
 use meaning::Outcome;
 
@@ -25,6 +25,22 @@ pub extern "C" fn plaitcrumb_check_table(model: &[u8], table: &[u8], work: &mut 
     ensures { λ r. ⌜ (r ≡ packed (answerOf (verdict (now (model .entry)) (now (table .entry)) (length (now (work .entry)))))) × (now (work .exit) ≡ nodeWork (now (model .entry)) (now (table .entry)) (now (work .entry))) ⌝ }
 {
     pack(rules::check(model, table, work))
+}
+
+// The book's own check: for many tables of one book, once.
+#[no_mangle]
+pub extern "C" fn plaitcrumb_check_book(model: &[u8]) -> u64
+    ensures { λ r. ⌜ r ≡ packed (answerOf (bookFault (now (model .entry)))) ⌝ }
+{
+    pack(book::fault(model))
+}
+
+// What the table check does after the book.
+#[no_mangle]
+pub extern "C" fn plaitcrumb_check_table_in(model: &[u8], table: &[u8], work: &mut [u8]) -> u64
+    ensures { λ r. ⌜ (r ≡ packed (answerOf (verdictIn (now (model .entry)) (now (table .entry)) (length (now (work .entry)))))) × (now (work .exit) ≡ nodeWorkIn (now (model .entry)) (now (table .entry)) (now (work .entry))) ⌝ }
+{
+    pack(rules::check_in(model, table, work))
 }
 
 // The finding check.
@@ -55,4 +71,19 @@ pub extern "C" fn plaitcrumb_name(model: &[u8], index: usize) -> u64
     let start = fields::name_start(model, index);
     let length = raw::wide(fields::name_length(model, index));
     4294967296 * (start as u64) + (length as u64)
+}
+
+// The name of a symbol without a look at the book: the same in a good one, and a part of the bytes whatever they are.
+#[no_mangle]
+pub extern "C" fn plaitcrumb_name_in(model: &[u8], index: usize) -> u64
+    ensures { λ r. ⌜ r ≡ namePlaceIn (now (model .entry)) index ⌝ }
+{
+    if fields::symbols(model) <= index {
+        return 0;
+    }
+    let name = fields::spelled_name(model, index);
+    if name.len() == 0 {
+        return 0;
+    }
+    4294967296 * (fields::name_start(model, index) as u64) + (name.len() as u64)
 }
