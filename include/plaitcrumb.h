@@ -4,11 +4,17 @@
  *     cc host.c -Iinclude build/libplaitcrumb.a                in the repository
  *     cc host.c $(pkg-config --cflags --libs plaitcrumb)       once it is installed
  *
- * There are three calls:
+ * There are six calls. Three look at the model first:
  *
  *     plaitcrumb_check_table      is this configuration table valid in this model?
  *     plaitcrumb_check_finding    does this finding about one select hold in this model?
  *     plaitcrumb_name             which bytes of the model spell the name of this symbol?
+ *
+ * And three are for many tables of one model, which is then looked at once:
+ *
+ *     plaitcrumb_check_book       is this model well formed?
+ *     plaitcrumb_check_table_in   is this table valid in this model, which is well formed?
+ *     plaitcrumb_name_in          which bytes of this model, which is well formed, spell this name?
  *
  * WORDS
  *
@@ -32,8 +38,8 @@
  *     finding are only read, so they may overlap each other.
  *   - No heap, no global state, no input or output, and no pointer is kept. So the calls may run in several
  *     threads at once, each with rooms of its own, on the same model if nobody writes to it meanwhile.
- *   - Little stack: under 1 KiB for the table check, the name and a witness, under 12 KiB for a clearance,
- *     whose tree is walked up to 64 deep. tests/host/stack.c measures it.
+ *   - Little stack: under 12 KiB for a clearance, whose tree is walked up to 64 deep, and under 1 KiB for
+ *     everything else. tests/host/stack.c measures it.
  *   - The same bytes handed in give the same result. What stood in the rooms before plays no part.
  *
  * THE RESULT OF A CHECK
@@ -44,7 +50,8 @@
  *
  *   answer                                                             place             second
  *
- *    0  the table is valid, or the finding is accepted                 65535             65535
+ *    0  the table is valid, the finding is accepted, or the model is   65535             65535
+ *       well formed
  *
  *       The model is refused:
  *    1  shorter than 36 bytes, or not as long as its own total         0                 65535
@@ -158,6 +165,59 @@ uint64_t plaitcrumb_check_finding(const uint8_t *model, size_t model_len,
  * The length is 0 where there is no such symbol, and for a model that a check would refuse with 1 to 4.
  */
 uint64_t plaitcrumb_name(const uint8_t *model, size_t model_len, size_t index);
+
+/*
+ * Checks one model by itself. The larger part of a table check is this, so for many tables of one model it is
+ * done once, and then each table is checked by plaitcrumb_check_table_in:
+ *
+ *     uint64_t r = plaitcrumb_check_book(model, model_len);
+ *     if (plaitcrumb_answer(r) == 0)
+ *         r = plaitcrumb_check_table_in(model, model_len, table, table_len, node_work, node_work_len);
+ *
+ * The two in turn are plaitcrumb_check_table: r and every byte of node_work are what it would have left.
+ *
+ *   model, model_len   the model
+ *
+ * Answers 0 and 1 to 4.
+ */
+uint64_t plaitcrumb_check_book(const uint8_t *model, size_t model_len);
+
+/*
+ * Checks one configuration table against a model for which plaitcrumb_check_book answered 0.
+ *
+ *   model, model_len           the model
+ *   table, table_len           the table
+ *   node_work, node_work_len   the room, at least plaitcrumb_nodes(model, model_len) bytes
+ *
+ * Answers 0, 5 to 7 and 10 to 18, in the order of plaitcrumb_check_table.
+ *
+ * Afterwards:
+ *   refused with 5 to 7   node_work is as it was.
+ *   any other answer      the first bytes of node_work, one a node, are the nodes' values in this table:
+ *                         0 for n, 1 for m, 2 for y. The rest of node_work is as it was.
+ *
+ * That 0 means a valid table, and 10 to 18 the first rule that it breaks, is promised only where
+ * plaitcrumb_check_book answered 0 for the same bytes of the model. On any others the call still ends, reads
+ * nothing outside of the slices, writes at most the first bytes of node_work, as many as the number in bytes 10
+ * and 11 of the model, and answers one of these numbers; but the answer means nothing, and it may take much
+ * longer than on a well-formed model.
+ */
+uint64_t plaitcrumb_check_table_in(const uint8_t *model, size_t model_len,
+                                   const uint8_t *table, size_t table_len,
+                                   uint8_t *node_work, size_t node_work_len);
+
+/*
+ * Finds the name of a symbol in a model for which plaitcrumb_check_book answered 0: the result is that of
+ * plaitcrumb_name, without a look at the rest of the model.
+ *
+ *   model, model_len   the model
+ *   index              the symbol's number, from 0; any number may be asked for
+ *
+ * The length is 0 where there is no such symbol. On any other bytes the part means nothing and may hold any
+ * bytes, but it always lies in the model: the start and the length together are at most model_len. It has at
+ * most 255 bytes.
+ */
+uint64_t plaitcrumb_name_in(const uint8_t *model, size_t model_len, size_t index);
 
 /* The three parts of a check's result. */
 static inline unsigned plaitcrumb_answer(uint64_t result) {

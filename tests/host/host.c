@@ -162,6 +162,48 @@ static void same_room(const char *word, const uint8_t *room, size_t len, const u
 
 static const uint8_t zeroes[ROOM];
 
+/* How many nodes a model counts for the check after the book: bytes 10 and 11, zero where there are none. */
+static size_t counted(const uint8_t *model, size_t len) {
+    return (len > 10 ? model[10] : (size_t)0) | (len > 11 ? (size_t)model[11] << 8 : 0);
+}
+
+/*
+ * The book's check, and the check after it. In a good book the second is the table check, whose result is given; in
+ * a bad one the first is, and the second still gives a number of its own and keeps to the nodes' part of the room.
+ */
+static void in_turn(const struct call *c, enum place place, const struct seen *whole) {
+    uint8_t *model = lend(MODEL, place, c->model, c->model_len);
+    uint8_t *bytes = lend(BYTES, place, c->bytes, c->bytes_len);
+    uint8_t *nodes = lend(NODES, place, NULL, c->node_len);
+    uint64_t book = plaitcrumb_check_book(model, c->model_len);
+    uint64_t result = plaitcrumb_check_table_in(model, c->model_len, bytes, c->bytes_len, nodes, c->node_len);
+    uint64_t answer = result >> 32;
+    checks += 2;
+    if ((book >> 32 ? book : result) != whole->result)
+        fail("the book draws %#lx, then the table %#lx, and both at once %#lx", (unsigned long)book,
+             (unsigned long)result, (unsigned long)whole->result);
+    if (book >> 32 > 4 || (answer >= 1 && answer <= 4) || (answer >= 8 && answer <= 9) || answer > 18)
+        fail("the book is answered %lu, and the table after it %lu", (unsigned long)(book >> 32), (unsigned long)answer);
+    size_t most = answer >= 5 && answer <= 7 ? 0 : counted(c->model, c->model_len);
+    same_room("node", nodes, c->node_len, book >> 32 ? nodes : whole->nodes, most);
+    if ((c->model_len && memcmp(model, c->model, c->model_len)) || (c->bytes_len && memcmp(bytes, c->bytes, c->bytes_len)))
+        fail("the model or the table was written to (%s)", place_words[place]);
+    take_back(MODEL, place, model, c->model_len);
+    take_back(BYTES, place, bytes, c->bytes_len);
+    take_back(NODES, place, nodes, c->node_len);
+}
+
+/* A name without a look at the book: in the model whatever it is, and in a good book the name that is given. */
+static void name_in_turn(const uint8_t *model, size_t len, size_t index, uint64_t whole) {
+    uint64_t r = plaitcrumb_name_in(model, len, index);
+    size_t start = plaitcrumb_name_start(r), length = plaitcrumb_name_length(r);
+    checks++;
+    if (length > 255 || start > len || length > len - start)
+        fail("symbol %zu of any bytes: %zu bytes from %zu, of %zu", index, length, start, len);
+    if (plaitcrumb_check_book(model, len) >> 32 == 0 && r != whole)
+        fail("symbol %zu: %zu bytes from %zu, and another name with a look at the book", index, length, start);
+}
+
 /*
  * A call whose result is known, in all places. The node bytes are given for a table check that is not refused;
  * the rooms are exact, short, or longer as the call says.
@@ -177,6 +219,8 @@ static void expect(const char *name, const struct call *c, unsigned answer, unsi
             plaitcrumb_second(seen.result) != second)
             fail("answered %u %u %u and should answer %u %u %u (%s)", plaitcrumb_answer(seen.result),
                  plaitcrumb_place(seen.result), plaitcrumb_second(seen.result), answer, place, second, place_words[at]);
+        if (!c->finding)
+            in_turn(c, (enum place)at, &seen);
         int untouched = refused(c, answer);
         same_room("node", seen.nodes, c->node_len, node_bytes ? node_bytes : zeroes, untouched ? 0 : nodes);
         same_room("symbol", seen.symbols, c->symbol_len, zeroes, untouched || !c->finding ? 0 : symbols);
@@ -205,6 +249,7 @@ static void expect_name(const uint8_t *model, size_t model_len, size_t index, co
         if (length != strlen(name) || start > model_len || length > model_len - start ||
             (length && memcmp(lent + start, name, length)))
             fail("symbol %zu: %zu bytes from %zu, should be \"%s\"", index, length, start, name);
+        name_in_turn(lent, model_len, index, r);
         if (model_len && memcmp(lent, model, model_len))
             fail("the model was written to");
         take_back(MODEL, (enum place)at, lent, model_len);
@@ -359,6 +404,20 @@ static void bad_models(void) {
     }
 }
 
+/* W cut: its last name, without a look at the book, is cut with it, and gone with its record. */
+static void cut_names(void) {
+    current = "a name cut";
+    for (size_t len = 0; len <= sizeof W; len++)
+        for (int at = 0; at < PLACES; at++) {
+            uint8_t *lent = lend(MODEL, (enum place)at, W, len);
+            uint64_t r = plaitcrumb_name_in(lent, len, 2), due = len > 92 ? (uint64_t)92 << 32 | (len - 92) : 0;
+            checks++;
+            if (r != due)
+                fail("of %zu bytes: %#lx, should be %#lx", len, (unsigned long)r, (unsigned long)due);
+            take_back(MODEL, (enum place)at, lent, len);
+        }
+}
+
 /* Tables for W that cannot be read. */
 static void bad_tables(void) {
     static const struct { const char *name; unsigned at, to, answer, place; } cases[] = {
@@ -420,6 +479,8 @@ static void any_bytes(const char *name, const struct call *c) {
             memcmp(next.symbols, first.symbols, c->symbol_len))
             fail("another result %s", place_words[at]);
     }
+    for (int at = 0; !c->finding && at < PLACES; at++)
+        in_turn(c, (enum place)at, &first);
     unsigned answer = plaitcrumb_answer(first.result), place = plaitcrumb_place(first.result);
     if (first.result >> 32 > 24 || answer == 9 || answer == 19 || answer == 20 ||
         (!c->finding && (answer == 8 || answer > 18)))
@@ -442,11 +503,13 @@ static void any_bytes(const char *name, const struct call *c) {
     same_room("symbol", first.symbols, c->symbol_len, zeroes, c->finding ? symbols : 0);
     for (int at = 0; at < PLACES; at++) {
         uint8_t *lent = lend(MODEL, (enum place)at, c->model, c->model_len);
-        uint64_t r = plaitcrumb_name(lent, c->model_len, dice(5));
+        size_t index = dice(5);
+        uint64_t r = plaitcrumb_name(lent, c->model_len, index);
         size_t start = plaitcrumb_name_start(r), length = plaitcrumb_name_length(r);
         checks++;
         if (length > 64 || start > c->model_len || length > c->model_len - start || (length && answer >= 1 && answer <= 4))
             fail("a name of %zu bytes from %zu, where a check answers %u", length, start, answer);
+        name_in_turn(lent, c->model_len, index, r);
         take_back(MODEL, (enum place)at, lent, c->model_len);
     }
 }
@@ -557,6 +620,7 @@ static void *one_thread(void *answers) {
         w_table(table, 2, i % 2 ? 2 : 0, 0);
         uint64_t due = i % 2 ? 0xffffffffu : (uint64_t)11 << 32 | 1 << 16 | NONE;
         wrong += plaitcrumb_check_table(W, sizeof W, table, sizeof table, nodes, sizeof nodes) != due;
+        wrong += plaitcrumb_check_table_in(W, sizeof W, table, sizeof table, nodes, sizeof nodes) != due;
         wrong += plaitcrumb_name_length(plaitcrumb_name(W, sizeof W, 1 + (size_t)i % 2)) != (i % 2 ? 3u : 4u);
         due = (uint64_t)23 << 32 | 4 << 16 | NONE;
         wrong += plaitcrumb_check_finding(W, sizeof W, LEAF, sizeof LEAF, nodes, sizeof nodes, symbols, sizeof symbols) != due;
@@ -573,7 +637,7 @@ static void threads(void) {
             exit(2);
     for (int i = 0; i < 4; i++) {
         pthread_join(thread[i], NULL);
-        checks += 9000;
+        checks += 12000;
         if (wrong[i])
             fail("%lu wrong answers in thread %d", (unsigned long)wrong[i], i);
     }
@@ -586,6 +650,7 @@ int main(int argc, char **argv) {
     worked_findings();
     nothing_lent();
     bad_models();
+    cut_names();
     bad_tables();
     long_slices();
     full(rounds / 200);

@@ -33,7 +33,7 @@ host() {
 # No heap and no state of its own: it asks for no function but the C library's five on bytes, and has nothing that
 # can be written to. And it exports what the header says.
 contents() {
-    due="plaitcrumb_check_finding plaitcrumb_check_table plaitcrumb_name"
+    due="plaitcrumb_check_book plaitcrumb_check_finding plaitcrumb_check_table plaitcrumb_check_table_in plaitcrumb_name plaitcrumb_name_in"
     has=$(nm -g --defined-only "$lib" | awk 'NF == 3 { print $3 }' | sort | tr '\n' ' ')
     asks=$(nm "$lib" | awk '$2 ~ /[A-TV-Z]/ { own[$3] } $1 ~ /^[Uw]$/ { ask[$2] }
         END { for (name in ask) if (!(name in own) && name !~ /^(memcpy|memmove|memset|memcmp|bcmp)$/) print name }' |

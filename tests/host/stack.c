@@ -1,6 +1,6 @@
 /*
  * How much stack each function of the archive uses: a call on a painted stack of its own, and how deep the paint is
- * gone. Ends non-zero unless the table check, the name and a witness use under 1,024 bytes, and a clearance under 12,288.
+ * gone. Ends non-zero unless a clearance uses under 12,288 bytes, and everything else under 1,024.
  */
 #define _GNU_SOURCE
 #include "books.h"
@@ -14,7 +14,7 @@ static uint8_t full[LONGEST], twice[LONGEST], table_of_full[LONGEST], deep[LONGE
 static uint8_t table_of_w[W_TABLE];
 static ucontext_t here, there;
 
-/* What the measured call is given. The name call takes the length of the bytes for the symbol's number. */
+/* What the measured call is given. The name calls take the length of the bytes for the symbol's number. */
 static const uint8_t *model, *bytes;
 static size_t model_len, bytes_len;
 static volatile uint64_t result;
@@ -24,6 +24,11 @@ static void table_call(void) {
     result = plaitcrumb_check_table(model, model_len, bytes, bytes_len, nodes, sizeof nodes);
 }
 static void name_call(void) { result = plaitcrumb_name(model, model_len, bytes_len); }
+static void book_call(void) { result = plaitcrumb_check_book(model, model_len); }
+static void table_in_call(void) {
+    result = plaitcrumb_check_table_in(model, model_len, bytes, bytes_len, nodes, sizeof nodes);
+}
+static void name_in_call(void) { result = plaitcrumb_name_in(model, model_len, bytes_len); }
 static void finding_call(void) {
     result = plaitcrumb_check_finding(model, model_len, bytes, bytes_len, nodes, sizeof nodes, symbols, sizeof symbols);
 }
@@ -70,7 +75,7 @@ static int answered = 1;
 /* Measures a call that gives this answer, and prints what it used. A name has none. */
 static void show(const char *what, void (*call)(void), unsigned due) {
     size_t size = measured(call);
-    unsigned answer = call == name_call ? 0 : (unsigned)plaitcrumb_answer(result);
+    unsigned answer = call == name_call || call == name_in_call ? 0 : (unsigned)plaitcrumb_answer(result);
     if (size > most)
         most = size;
     printf("  %-52s answer %2u  %6zu bytes%s\n", what, answer, size, answer == due ? "" : ": ANOTHER ANSWER WAS DUE");
@@ -107,6 +112,22 @@ int main(void) {
     set_input(twice, full_len, NULL, FULL_SYMBOLS - 1);
     show("name, full book, a name twice", name_call, 0);
     good &= within("plaitcrumb_name", TABLE_LIMIT);
+
+    set_input(full, full_len, NULL, 0);
+    show("book, full book", book_call, 0);
+    set_input(twice, full_len, NULL, 0);
+    show("book, full book, a name twice", book_call, 3);
+    good &= within("plaitcrumb_check_book", TABLE_LIMIT);
+
+    set_input(W, sizeof W, table_of_w, W_TABLE);
+    show("table after the book, worked model", table_in_call, 0);
+    set_input(full, full_len, table_of_full, full_table_len);
+    show("table after the book, full book", table_in_call, 0);
+    good &= within("plaitcrumb_check_table_in", TABLE_LIMIT);
+
+    set_input(full, full_len, NULL, FULL_SYMBOLS - 1);
+    show("name after the book, full book", name_in_call, 0);
+    good &= within("plaitcrumb_name_in", TABLE_LIMIT);
 
     memcpy(finding + 4, table_of_w, W_TABLE);
     set_input(W, sizeof W, finding, 4 + W_TABLE);
