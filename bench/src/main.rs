@@ -1,12 +1,13 @@
 //! The time of the archive beside that of the second program, both built for
 //! release, in one run, as one table in Markdown: large tables that keep every
-//! rule, so that the whole check runs; the name call; the growth with the
-//! length; complete clearances; and a witness.
+//! rule, so that the whole check runs; a table in a checked book; the name call;
+//! the growth with the length; complete clearances; and a witness.
 
 mod shapes;
 
 use differential::archive;
 use differential::big::Big;
+use second::book::Book;
 use second::named::{NODE_FILL, SYMBOL_FILL};
 use second::sketch::{self, Value};
 use second::Answer;
@@ -81,6 +82,24 @@ fn table(model: &[u8], table: &[u8], nodes: usize) -> Times {
     )
 }
 
+/// Times the table check after the book's; both sides must answer 0.
+fn table_in(model: &[u8], table: &[u8], nodes: usize) -> Times {
+    let (mut ours, mut theirs) = (vec![NODE_FILL; nodes], vec![NODE_FILL; nodes]);
+    let book = Book::read(model).expect("a good book");
+    let judge = |room: &mut [u8]| {
+        let entries = second::table::read(&book, table).expect("a readable table");
+        second::values::fill(&book, &entries, room);
+        second::rules::first_broken(&book, &entries, room)
+    };
+    assert_eq!(archive::check_table_in(model, table, &mut ours), Answer::KEPT);
+    assert_eq!(judge(&mut theirs), Answer::KEPT);
+    assert_eq!(ours, theirs);
+    Times::of(
+        || _ = black_box(archive::check_table_in(model, table, &mut ours)),
+        || _ = black_box(judge(&mut theirs)),
+    )
+}
+
 /// Times the finding check; both sides must give this answer.
 fn finding(model: &[u8], finding: &[u8], nodes: usize, symbols: usize, answer: Answer) -> Times {
     let (mut ours, mut theirs) = (vec![NODE_FILL; nodes], vec![NODE_FILL; nodes]);
@@ -123,7 +142,8 @@ fn heads() {
     println!("|{}|{}", "-".repeat(40), "---:|".repeat(9));
 }
 
-/// The table check on each shape, and the name call on the usual one.
+/// The table check on each shape, and on the usual one the check after the
+/// book's and the name call.
 fn tables() {
     for (what, shape) in &SHAPES {
         let big = Big::new(shape, SEED);
@@ -146,13 +166,11 @@ fn tables() {
         line(what, counts, model.len(), &table(&model, &values, counts[1]));
     }
     let big = Big::new(&USUAL, SEED);
-    let model = big.model();
-    line(
-        "name call: the last symbol of b",
-        big.sketch.counts(),
-        model.len(),
-        &name(&model, USUAL.symbols - 1),
-    );
+    let (model, counts) = (big.model(), big.sketch.counts());
+    let times = table_in(&model, &big.table(), USUAL.nodes);
+    line("table in a checked book: b", counts, model.len(), &times);
+    let times = name(&model, USUAL.symbols - 1);
+    line("name call: the last symbol of b", counts, model.len(), &times);
 }
 
 /// The complete clearance of each book made for it, and a witness on the usual

@@ -1,6 +1,7 @@
 //! One case through the archive and through the second program.
 
 use crate::archive;
+use second::book::Book;
 use second::cases::{hex, Case, FINDING, NAME, PROGRAM};
 use second::Answer;
 use std::sync::atomic::{AtomicU32, Ordering};
@@ -120,6 +121,9 @@ fn check(case: &Case) -> Result<u32, Difference> {
         && inputs_kept
         && outside_kept;
     if alike {
+        if case.kind != FINDING {
+            in_turn(case, ours, nodes.part())?;
+        }
         return Ok(theirs.number);
     }
     let mut archive = told(ours, nodes.part(), symbols.part());
@@ -130,6 +134,64 @@ fn check(case: &Case) -> Result<u32, Difference> {
         archive += ", and it wrote outside of its rooms";
     }
     Err(Difference { archive, second: told(theirs, &their_nodes, &their_symbols) })
+}
+
+/// Compares the book's check and the check after it with the table check's
+/// answer and room: in a good book the second is the table check, in a bad one
+/// the first is, and the second keeps to its numbers and to the nodes' bytes.
+fn in_turn(case: &Case, whole: Answer, room: &[u8]) -> Result<(), Difference> {
+    let (model, bytes) = (Lent::of(&case.model), Lent::of(&case.second));
+    let mut nodes = Lent::of(&case.node_work);
+    let due = judged(Book::read(&case.model).err().unwrap_or(Answer::KEPT));
+    let book = archive::check_book(model.part());
+    let table = archive::check_table_in(model.part(), bytes.part(), nodes.part_mut());
+    let after = if book.number == 0 {
+        table == whole && nodes.part() == room
+    } else {
+        let front = match table.number {
+            5..=7 => 0,
+            _ => counted_nodes(&case.model).min(case.node_work.len()),
+        };
+        book == whole
+            && matches!(table.number, 0 | 5..=7 | 10..=18)
+            && nodes.part()[front..] == case.node_work[front..]
+    };
+    let kept = model.kept(&case.model) && bytes.kept(&case.second) && nodes.margins_kept();
+    if book == due && after && kept {
+        return name_in_turn(&case.model, whole.place as usize, book.number == 0);
+    }
+    let archive = format!(
+        "the book {}, then the table {}{}",
+        told(book, &[], &[]),
+        told(table, nodes.part(), &[]),
+        if kept { "" } else { ", and it wrote into its inputs or outside of its room" },
+    );
+    let second =
+        format!("the book {}, both at once {}", told(due, &[], &[]), told(whole, room, &[]));
+    Err(Difference { archive, second })
+}
+
+/// How many nodes the check after the book counts, whatever the model is.
+fn counted_nodes(model: &[u8]) -> usize {
+    let byte = |at: usize| usize::from(model.get(at).copied().unwrap_or(0));
+    byte(10) | byte(11) << 8
+}
+
+/// Compares a name without a look at the book: in the model whatever it is,
+/// and in a good book the name with a look at it.
+fn name_in_turn(model: &[u8], index: usize, good: bool) -> Result<(), Difference> {
+    let (start, length) = archive::name_in(model, index);
+    let inside = start <= model.len() && length <= model.len() - start;
+    if inside && (!good || (start, length) == archive::name(model, index)) {
+        return Ok(());
+    }
+    let archive = format!("symbol {index} after the book: {length} bytes from {start}");
+    let second = if good {
+        format!("symbol {index} with the book: {:?}", archive::name(model, index))
+    } else {
+        format!("a part of {} bytes", model.len())
+    };
+    Err(Difference { archive, second })
 }
 
 /// An answer and both rooms in words.
@@ -157,6 +219,7 @@ fn names(case: &Case) -> Result<u32, Difference> {
             let second = format!("the name \"{}\"", theirs.escape_ascii());
             return Err(Difference { archive, second });
         }
+        name_in_turn(model, asked, archive::check_book(model).number == 0)?;
     }
     Ok(u32::from(second::name(model, index).is_empty()))
 }

@@ -8,7 +8,8 @@
 //! COUNT cases of SEED (else 100,000 of seed 1), three neighbours of each, some
 //! large books and every named case go through both. Answer, place, second
 //! place, names, and every byte of both rooms must be the same, and nothing else
-//! may be written to. A difference is shrunk and printed as a case of the
+//! may be written to. A table and a name also go through the book's check and
+//! the call after it, which together must do the same. A difference is shrunk and printed as a case of the
 //! protocol in hex, which `case` runs again. `docs` runs the byte examples of
 //! documents, on the files of a folder; `self-test` sees to it that a judge which
 //! is wrong on purpose is found out.
