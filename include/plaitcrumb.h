@@ -199,8 +199,8 @@ uint64_t plaitcrumb_check_book(const uint8_t *model, size_t model_len);
  * That 0 means a valid table, and 10 to 18 the first rule that it breaks, is promised only where
  * plaitcrumb_check_book answered 0 for the same bytes of the model. On any others the call still ends, reads
  * nothing outside of the slices, writes at most the first bytes of node_work, as many as the number in bytes 10
- * and 11 of the model, and answers one of these numbers; but the answer means nothing, and it may take much
- * longer than on a well-formed model.
+ * and 11 of the model, and answers one of these numbers; but the answer means nothing. And it may take seconds
+ * there, where a well-formed model takes less than a millisecond or two.
  */
 uint64_t plaitcrumb_check_table_in(const uint8_t *model, size_t model_len,
                                    const uint8_t *table, size_t table_len,
