@@ -1,13 +1,13 @@
 -- The book's check and then the check after it are the table check, and so for the name: where the book is well formed, what comes after it is all
 -- that is left, and its names lie in its texts. Assumes nothing.
 use Prim.Native.Nat.{ℕ, _+_, _*_, _≤_, _<_}
-use mathlib.Core.Path.{_≡_, refl, _∙_}
+use mathlib.Core.Path.{_≡_, refl}
 use mathlib.Core.Bool.{Bool, true, false, _&&_, not}
 use mathlib.Core.Logic.{Iff·rfl}
 use mathlib.Core.List.{List}
 use native.Mathlib.Omega.{arith}
 use lib.Dec.{eqb, leb, ltb}
-use lib.ListN.{length, take, drop, length-take, length-drop}
+use lib.ListN.{length, drop, length-take, length-drop}
 use borrow.Author.Tests.{leb-true, ltb-true, ne-eqb}
 use Rattle.meaning.specs.declared.Outcome.the-variants.{Clean, Fault}
 use Rattle.meaning.specs.Base.{pick, part, orElse}
@@ -50,7 +50,7 @@ firstThree a b c d e h =
     (one .0, one .1, two .1)
 
 module _ (m : List ℕ) (s : ℕ) where
-  -- how many bytes are left of a name's part where the model is cut
+  -- a name's part, cut where the bytes end: no longer than its record says, and in them if it has a byte
   long : length (spelledName m s) ≤ nameLength m s
   unfolding part
   long = omega (arith, length-take (nameLength m s) (drop (nameStart m s) m))

@@ -1,9 +1,8 @@
 -- The book's check and then the one after it are the table check, and so for the name: of the contracts themselves, as Rattle reads them. A result
 -- below 2^32 has the answer 0, so the book is clean and what comes after it is all that is left. Assumes nothing.
 use Prim.Native.Nat.{ℕ, _≤_, _<_}
-use mathlib.Core.Path.{_≡_, refl, sym, _∙_, ap}
+use mathlib.Core.Path.{_≡_, refl, sym, _∙_, ap, subst}
 use mathlib.Core.Logic.{_↔_}
-use mathlib.Core.List.{List}
 use native.Mathlib.Omega.{arith}
 use contract.Lifetimes.{Lfts}
 use borrow.Fn.Kinds.{Dens, resT, endedOf}
@@ -72,3 +71,11 @@ module _ (κb : Lfts 1) (b : Dens κb book-kinds.ps) (y : resT book-kinds.r κb 
     name-in-turn l =
         let v = turn.name-in-turn (now (a .0)) (a .1 .0) (book-iff (now (a .0)) .0 (ap bookFault same ∙ clean-book l)) in
         ((λ p. p ∙ sym v), (λ p. p ∙ v))
+
+-- a name without a look at the book lies in the bytes, whatever they are
+pub name-in-inside :
+    (κs : Lfts 1) (a : Dens κs name-kinds.ps) (x : resT name-kinds.r κs .Denot) (e : AtExit (endedOf 1 name-kinds.ps name-kinds.r) κs)
+    → name-in-reads.Post κs a x e
+    → turn.Inside (now (a .0)) (a .1 .0) x
+name-in-inside κs a x e p =
+    subst (turn.Inside (now (a .0)) (a .1 .0)) (sym p) (turn.name-in-inside (now (a .0)) (a .1 .0))
