@@ -17,7 +17,8 @@ git diff --quiet HEAD -- . ':!bench/results.md' || commit="$commit, with changes
 
 Written by \`make bench\`. Both sides in one run, in turn, medians; every table keeps every rule, every clearance is accepted and the
 witness has its select met, so that the whole check runs. *archive* is the proved code, *second* the second program
-(\`tests/second\`, plain Rust, built for release), *ratio* the one by the other.
+(\`tests/second\`, plain Rust, built for release), *ratio* the one by the other. For a table in a checked book the second program
+has the book read and laid out before; the archive keeps nothing of it.
 
 - Machine: $(sed -n 's/^model name[^:]*: //p' /proc/cpuinfo | sort -u | head -n 1), $(nproc) cores, $(awk '/^MemTotal/ { printf "%.0f GiB", $2 / 1048576 }' /proc/meminfo), $(uname -sm)
 - Commit: $commit

@@ -29,7 +29,8 @@
  *
  * WHAT HOLDS FOR EVERY CALL
  *
- *   - Any bytes may be handed in, of any length. What is malformed is refused with a number.
+ *   - Any bytes may be handed in, of any length. What is malformed is refused with a number; only
+ *     plaitcrumb_check_table_in and plaitcrumb_name_in leave the faults of a model to plaitcrumb_check_book.
  *   - Bytes come as a pointer and a length. NULL with the length 0 is an empty slice; NULL with any other
  *     length is the caller's mistake.
  *   - Nothing is read outside of the slices, and nothing is written outside of the rooms. Nothing needs to be
@@ -167,7 +168,7 @@ uint64_t plaitcrumb_check_finding(const uint8_t *model, size_t model_len,
 uint64_t plaitcrumb_name(const uint8_t *model, size_t model_len, size_t index);
 
 /*
- * Checks one model by itself. The larger part of a table check is this, so for many tables of one model it is
+ * Checks one model by itself. Half of a table check and more is this, so for many tables of one model it is
  * done once, and then each table is checked by plaitcrumb_check_table_in:
  *
  *     uint64_t r = plaitcrumb_check_book(model, model_len);
@@ -199,8 +200,8 @@ uint64_t plaitcrumb_check_book(const uint8_t *model, size_t model_len);
  * That 0 means a valid table, and 10 to 18 the first rule that it breaks, is promised only where
  * plaitcrumb_check_book answered 0 for the same bytes of the model. On any others the call still ends, reads
  * nothing outside of the slices, writes at most the first bytes of node_work, as many as the number in bytes 10
- * and 11 of the model, and answers one of these numbers; but the answer means nothing. And it may take seconds
- * there, where a well-formed model takes less than a millisecond or two.
+ * and 11 of the model, and answers one of these numbers; but the answer means nothing. It may also take seconds
+ * there, which it never does on a well-formed model.
  */
 uint64_t plaitcrumb_check_table_in(const uint8_t *model, size_t model_len,
                                    const uint8_t *table, size_t table_len,
@@ -230,7 +231,7 @@ static inline unsigned plaitcrumb_second(uint64_t result) {
     return (unsigned)(result & 65535u);
 }
 
-/* The symbol that a check's result blames, for plaitcrumb_name; PLAITCRUMB_NO_PLACE if it blames none. */
+/* The symbol that a check's result blames, for a name call; PLAITCRUMB_NO_PLACE if it blames none. */
 static inline unsigned plaitcrumb_symbol(uint64_t result) {
     unsigned answer = plaitcrumb_answer(result);
     if ((answer >= 10 && answer <= 14) || answer == 18)
