@@ -59,30 +59,6 @@ module _ (m : List ℕ) (s : ℕ) where
   unfolding part
   cut h = omega (arith, h, length-take (nameLength m s) (drop (nameStart m s) m), length-drop (nameStart m s) m)
 
-  -- in a well-formed book a name has a byte or more, all of them in the texts, and so it is not cut
-  fits : WellFormed m → s < symbols m → (length (spelledName m s) ≡ nameLength m s) × (0 < nameLength m s)
-  unfolding symbolOk nameOk endOf part
-  fits w lt =
-      let named = firstThree (leb (typeOf m s) 4) (nameOk m s) (newName m s) (ltb (promptOf m s) (nodes m)) (ltb (dependOf m s) (nodes m)) (w .symbol s lt) .1 in
-      let n = nameLength m s in
-      let inside =
-      firstThree (leb 1 n) (leb n 64) (leb (nameOffset m s + n) (texts m)) (nameBytes m (nameStart m s) n) (not (digitsAlone m (nameStart m s) n)) named in
-      let some = leb-true 1 n (inside .0) in
-      let ends = leb-true (nameOffset m s + n) (texts m) (inside .2) in
-      (omega (arith, w .ended, w .whole, ends, length-take n (drop (nameStart m s) m), length-drop (nameStart m s) m), omega (arith, some))
-
-  pub name-in-turn : WellFormed m → namePlace m s ≡ namePlaceIn m s
-  unfolding namePlace namePlaceIn
-  name-in-turn w = rw (book-iff m .1 w) (same (ltb s (symbols m)) refl)
-    where
-      same :
-          (q : Bool)
-          → ltb s (symbols m) ≡ q
-          → pick q (4294967296 * nameStart m s + nameLength m s) 0
-          ≡ pick q (pick (eqb (length (spelledName m s)) 0) 0 (4294967296 * nameStart m s + length (spelledName m s))) 0
-      same true e = let f = fits w (ltb-true s (symbols m) e) in rw (f .0, ne-eqb (nameLength m s) 0 (λ z. omega (arith, z, f .1)))
-      same false e = refl
-
 -- WHATEVER THE BYTES ARE, the part that is told lies in them, and is no longer than a byte counts
 pub record Inside (m : List ℕ) (s r : ℕ) : Type 0 where
   pub start : ℕ
@@ -109,3 +85,29 @@ name-in-inside m s =
   where
     none : Inside m s 0
     none = record { start = 0; count = 0; is = refl; within = omega arith; short = omega arith }
+
+-- IN A WELL-FORMED BOOK
+module _ (m : List ℕ) (s : ℕ) where
+  -- a name has a byte or more, all of them in the texts, and so it is not cut
+  fits : WellFormed m → s < symbols m → (length (spelledName m s) ≡ nameLength m s) × (0 < nameLength m s)
+  unfolding symbolOk nameOk endOf part
+  fits w lt =
+      let named = firstThree (leb (typeOf m s) 4) (nameOk m s) (newName m s) (ltb (promptOf m s) (nodes m)) (ltb (dependOf m s) (nodes m)) (w .symbol s lt) .1 in
+      let n = nameLength m s in
+      let inside =
+      firstThree (leb 1 n) (leb n 64) (leb (nameOffset m s + n) (texts m)) (nameBytes m (nameStart m s) n) (not (digitsAlone m (nameStart m s) n)) named in
+      let some = leb-true 1 n (inside .0) in
+      let ends = leb-true (nameOffset m s + n) (texts m) (inside .2) in
+      (omega (arith, w .ended, w .whole, ends, length-take n (drop (nameStart m s) m), length-drop (nameStart m s) m), omega (arith, some))
+
+  pub name-in-turn : WellFormed m → namePlace m s ≡ namePlaceIn m s
+  unfolding namePlace namePlaceIn
+  name-in-turn w = rw (book-iff m .1 w) (same (ltb s (symbols m)) refl)
+    where
+      same :
+          (q : Bool)
+          → ltb s (symbols m) ≡ q
+          → pick q (4294967296 * nameStart m s + nameLength m s) 0
+          ≡ pick q (pick (eqb (length (spelledName m s)) 0) 0 (4294967296 * nameStart m s + length (spelledName m s))) 0
+      same true e = let f = fits w (ltb-true s (symbols m) e) in rw (f .0, ne-eqb (nameLength m s) 0 (λ z. omega (arith, z, f .1)))
+      same false e = refl
