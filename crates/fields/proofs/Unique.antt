@@ -90,6 +90,8 @@ use Rattle.fields.proofs.target_from.Kinds as target-from-kinds
 use Rattle.fields.proofs.target_from.Reads as target-from-reads
 use Rattle.fields.proofs.default_symbol_from.Kinds as default-symbol-from-kinds
 use Rattle.fields.proofs.default_symbol_from.Reads as default-symbol-from-reads
+use Rattle.fields.proofs.member_symbol_from.Kinds as member-symbol-from-kinds
+use Rattle.fields.proofs.member_symbol_from.Reads as member-symbol-from-reads
 use Rattle.fields.proofs.name_length_from.Kinds as name-length-from-kinds
 use Rattle.fields.proofs.name_length_from.Reads as name-length-from-reads
 use Rattle.fields.proofs.name_offset_from.Kinds as name-offset-from-kinds
@@ -230,6 +232,9 @@ target-from-once κs a x y s t p q = p .0 ∙ sym (q .0)
 
 pub default-symbol-from-once : Once 1 default-symbol-from-kinds.ps default-symbol-from-kinds.r default-symbol-from-reads.Post
 default-symbol-from-once κs a x y s t p q = p .0 ∙ sym (q .0)
+
+pub member-symbol-from-once : Once 1 member-symbol-from-kinds.ps member-symbol-from-kinds.r member-symbol-from-reads.Post
+member-symbol-from-once κs a x y s t p q = p .0 ∙ sym (q .0)
 
 pub name-length-from-once : Once 1 name-length-from-kinds.ps name-length-from-kinds.r name-length-from-reads.Post
 name-length-from-once κs a x y s t p q = p ∙ sym q

@@ -352,6 +352,14 @@ pub fn member_symbol(m: &[u8], i: usize) -> usize
     half_in(m, 7, 2, i, 0)
 }
 
+// The symbol of a member record, where the members' start is at hand.
+pub fn member_symbol_from(m: &[u8], members: usize, i: usize) -> usize
+    requires { ⌜ (members ≡ startOf (now m) 7) × (members < 65536) × (i < 2 ^ 32) ⌝ }
+    ensures { λ r. ⌜ (r ≡ memberSymbol (now (m .entry)) i) × (r < 65536) ⌝ }
+{
+    raw::half(m, members + i * 2)
+}
+
 // How many bytes a record of section k takes.
 pub fn width(k: usize) -> usize
     requires { ⌜ k < 9 ⌝ }
