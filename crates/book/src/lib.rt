@@ -3,13 +3,13 @@
 // Total over any bytes. `fault` has answers 1 to 4, the first fault in document 01's order with both its places; `name` hands
 // back the part of the book that spells a symbol's name.
 ghost use mathlib.Core.Path.{_≡_};
-ghost use mathlib.Core.Bool.{true};
 ghost use Prim.Native.Nat.{_+_, _<_, _≤_};
 ghost use Rattle.meaning.specs.Base.{firstBelow};
 ghost use Rattle.meaning.specs.Book.{due as dueOf, lengthFault, chainAt, endFault, chainFault, recordAt, sectionFault};
 ghost use Rattle.meaning.specs.Book.{sectionAfter, unusedFault, memberAt, choiceMembersFault, membersFault, recordsFault};
-ghost use Rattle.meaning.specs.Book.{modulesFault, bookFault, nameOf, MembersFit, members as membersOf, firstMember, memberCount};
-ghost use Rattle.members.specs.Fresh.{AllFresh};
+ghost use Rattle.meaning.specs.Book.{modulesFault, bookFault, nameOf, members as membersOf, firstMember, memberCount};
+ghost use Rattle.members.specs.Old.{FirstOld};
+ghost use Rattle.book.specs.Turns.{InTurn};
 use meaning::Outcome;
 
 // 1: too short, or unlike its total.
@@ -100,24 +100,24 @@ fn unused_fault(m: &[u8]) -> Outcome
     raw::fault_if(bad, 3, 6, n)
 }
 
-// 3 at choice c's member j, if it is malformed. Whether no symbol is known to stand in two member records.
-fn member_at(m: &[u8], c: usize, j: usize, new: bool) -> Outcome
-    requires { ⌜ (c < 65536) × (firstMember (now m) c + j < membersOf (now m)) × (membersOf (now m) < 65536) × (new ≡ true → AllFresh (now m)) ⌝ }
+// 3 at choice c's member j, if it is malformed. It stands no later than `old`, the first member record whose symbol is in an earlier one.
+fn member_at(m: &[u8], c: usize, j: usize, old: usize) -> Outcome
+    requires { ⌜ (c < 65536) × (firstMember (now m) c + j < membersOf (now m)) × (membersOf (now m) < 65536) × FirstOld (now m) old × (firstMember (now m) c + j ≤ old) ⌝ }
     ensures { λ r. ⌜ r ≡ memberAt (now (m .entry)) c j ⌝ }
 {
     let i = fields::first_member(m, c) + j;
-    let bad = !records::member_ok(m, c, i, new);
-    raw::fault_if(bad, 3, 7, i)
+    let good = records::member_fits(m, c, i) & (i != old);
+    raw::fault_if(!good, 3, 7, i)
 }
 
-// 3: the first malformed member of choice c.
-fn choice_members_fault(m: &[u8], c: usize, new: bool) -> Outcome
-    requires { ⌜ (c < 65536) × (firstMember (now m) c + memberCount (now m) c ≤ membersOf (now m)) × (membersOf (now m) < 65536) × (new ≡ true → AllFresh (now m)) ⌝ }
+// 3: the first malformed member of choice c. Its members start no later than `old`.
+fn choice_members_fault(m: &[u8], c: usize, old: usize) -> Outcome
+    requires { ⌜ (c < 65536) × (firstMember (now m) c + memberCount (now m) c ≤ membersOf (now m)) × (membersOf (now m) < 65536) × FirstOld (now m) old × (firstMember (now m) c ≤ old) ⌝ }
     ensures { λ r. ⌜ r ≡ choiceMembersFault (now (m .entry)) c ⌝ }
 {
     let n = fields::member_count(m, c);
     for j in 0..n {
-        let at = member_at(m, c, j, new);
+        let at = member_at(m, c, j, old);
         if let Outcome::Fault(_, _, _) = at {
             return at;
         }
@@ -125,15 +125,15 @@ fn choice_members_fault(m: &[u8], c: usize, new: bool) -> Outcome
     Outcome::Clean
 }
 
-// 3: the first malformed member, where the choices hold no more members than there are.
+// 3: the first malformed member, where the choices take the members in turn.
 fn members_fault(m: &[u8]) -> Outcome
-    requires { ⌜ MembersFit (now m) ⌝ }
+    requires { ⌜ InTurn (now m) ⌝ }
     ensures { λ r. ⌜ r ≡ membersFault (now (m .entry)) ⌝ }
 {
     let n = fields::choices(m);
-    let new = members::fresh(m);
+    let old = members::first_old(m);
     for c in 0..n {
-        let at = choice_members_fault(m, c, new);
+        let at = choice_members_fault(m, c, old);
         if let Outcome::Fault(_, _, _) = at {
             return at;
         }

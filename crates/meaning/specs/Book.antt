@@ -314,10 +314,6 @@ memberAt m c j = let i = firstMember m c + j in when (not (memberOk m c i)) (Fau
 unfoldable pub choiceMembersFault : List ℕ → ℕ → Outcome
 choiceMembersFault m c = firstBelow (memberAt m c) (memberCount m c)
 
--- no choice's members end past the last of them, which a u16 counts
-abbrev pub MembersFit : List ℕ → Type 0
-MembersFit m = (c : ℕ) → c < choices m → (firstMember m c + memberCount m c ≤ members m) × (members m < 65536)
-
 unfoldable pub membersFault : List ℕ → Outcome
 membersFault m = firstBelow (choiceMembersFault m) (choices m)
 

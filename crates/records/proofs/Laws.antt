@@ -1,6 +1,5 @@
--- Where a choice's members begin, one choice on, and a member's test where its symbol is known to be new. Assumes nothing.
-use mathlib.Core.Path.{_≡_, refl}
-use mathlib.Core.Bool.{Bool, true, false, _&&_}
+-- Where a choice's members begin, one choice on. Assumes nothing.
+use mathlib.Core.Path.{_≡_}
 use mathlib.Core.List.{List}
 use Prim.Native.Nat.{ℕ, zero, suc, _+_, _-_, _<_}
 use native.Mathlib.Omega.{arith}
@@ -10,8 +9,3 @@ pub due-after : (m : List ℕ) (c : ℕ) {r : ℕ} → 0 < c → r ≡ firstMemb
 unfolding memberDue
 due-after m zero h e = absurd (omega arith)
 due-after m (suc c) h e = let q : suc c - 1 ≡ c = omega arith in rw q at e
-
-pub known-new : (a b n : Bool) → (a ≡ true → n ≡ true) → (a && b) ≡ (a && b && n)
-known-new false b n h = refl
-known-new true true n h = rw (h refl)
-known-new true false n h = refl

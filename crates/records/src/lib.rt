@@ -3,11 +3,11 @@
 // Total over any bytes. Each test is document 01's, by its definition; a record's number is below 2^32.
 ghost use mathlib.Core.Path.{_≡_};
 ghost use Prim.Native.Nat.{_+_, _<_, _^_};
-ghost use mathlib.Core.Bool.{true, _&&_};
+ghost use mathlib.Core.Bool.{_&&_};
 ghost use lib.Dec.{leb, ltb};
-ghost use Rattle.meaning.specs.Book.{symbols as symbolsOf, nodes as nodesOf, typeOf, promptOf, dependOf, memberSymbol};
+ghost use Rattle.meaning.specs.Book.{symbols as symbolsOf, nodes as nodesOf, typeOf, promptOf, dependOf, choiceKind, memberSymbol};
 ghost use Rattle.meaning.specs.Book.{isDigit, isNameByte, nameBytes, digitsAlone, otherName, newName, nameOk, symbolOk, leafFits, nodeFits};
-ghost use Rattle.meaning.specs.Book.{nodeOk, defaultOk, selectOk, boundOk, rangeOk, memberDue, choiceOk, newMember, memberOk, recordOk};
+ghost use Rattle.meaning.specs.Book.{nodeOk, defaultOk, selectOk, boundOk, rangeOk, memberDue, choiceOk, recordOk};
 
 // 0 to 9.
 fn is_digit(b: u8) -> bool
@@ -230,31 +230,13 @@ fn choice_ok(m: &[u8], c: usize) -> bool
         & (end <= fields::members(m))
 }
 
-// Whether symbol s stands in no member record before i.
-fn new_member(m: &[u8], i: usize, s: usize) -> bool
-    requires { ⌜ i < 2 ^ 32 ⌝ }
-    ensures { λ r. ⌜ r ≡ newMember (now (m .entry)) i s ⌝ }
-{
-    for e in 0..i {
-        let other = fields::member_symbol(m, e) != s;
-        if !other {
-            return false;
-        }
-    }
-    true
-}
-
-// Member record i, of choice c: it is of the choice's type. Whether its symbol is known to stand in no earlier record.
-pub fn member_ok(m: &[u8], c: usize, i: usize, new: bool) -> bool
-    requires { ⌜ (c < 2 ^ 32) × (i < 2 ^ 32) × (new ≡ true → memberSymbol (now m) i < symbolsOf (now m) → newMember (now m) i (memberSymbol (now m) i) ≡ true) ⌝ }
-    ensures { λ r. ⌜ r ≡ memberOk (now (m .entry)) c i ⌝ }
+// Member record i, of choice c, whatever the records before it are: it is of the choice's type.
+pub fn member_fits(m: &[u8], c: usize, i: usize) -> bool
+    requires { ⌜ (c < 2 ^ 32) × (i < 2 ^ 32) ⌝ }
+    ensures { λ r. ⌜ r ≡ (ltb (memberSymbol (now (m .entry)) i) (symbolsOf (now (m .entry))) && leb (typeOf (now (m .entry)) (memberSymbol (now (m .entry)) i)) (choiceKind (now (m .entry)) c)) ⌝ }
 {
     let s = fields::member_symbol(m, i);
-    let fits = (s < fields::symbols(m)) & (fields::type_of(m, s) <= fields::choice_kind(m, c));
-    if new {
-        return fits;
-    }
-    fits & new_member(m, i, s)
+    (s < fields::symbols(m)) & (fields::type_of(m, s) <= fields::choice_kind(m, c))
 }
 
 // Record i of section k.

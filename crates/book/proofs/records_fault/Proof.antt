@@ -1,6 +1,6 @@
 -- `book::records_fault` meets its contract: one part after another, each looked at where those before it are clean.
 use mathlib.Core.Path.{sym, _∙_}
-use Rattle.book.proofs.Laws.{members-fit}
+use Rattle.book.proofs.Laws.{in-turn}
 use Rattle.meaning.specs.Book.{recordsFault}
 use Rattle.meaning.proofs.First.{first-fault, first-clean}
 use borrow.Author.Needs.{needs}
@@ -39,7 +39,7 @@ enum-told-4 : tie.Need-enum-told-4
 enum-told-4 c = search needs
 
 members-fault-requires : tie.Need-members-fault-requires
-members-fault-requires c κs = members-fit (c .before .before .before .before .before .before .before .args .m .now) (λ i. c .before .before .before .before .before .before .shared-slice-known .given i .fits) (sym (c .before .before .before .before .before .sections-fault .ensures) ∙ c .before .before .before .enum-told2 .given .1)
+members-fault-requires c κs = in-turn (c .before .before .before .before .before .before .before .args .m .now) (λ i. c .before .before .before .before .before .before .shared-slice-known .given i .fits) (sym (c .before .before .before .before .before .sections-fault .ensures) ∙ c .before .before .before .enum-told2 .given .1)
 
 returns-3 : tie.Need-returns-3
 unfolding recordsFault
