@@ -1,9 +1,13 @@
 //! The time of the archive beside that of the second program, both built for
 //! release, in one run, as one table in Markdown: large tables that keep every
 //! rule, so that the whole check runs; a table in a checked book; the name call;
-//! the growth with the length; complete clearances; and a witness.
+//! the growth with the length; complete clearances; a witness; and the slow
+//! inputs.
+//!
+//! usage: bench [--slow]   only the slow inputs
 
 mod shapes;
+mod slowest;
 
 use differential::archive;
 use differential::big::Big;
@@ -211,7 +215,10 @@ fn growth() {
 
 fn main() {
     heads();
-    tables();
-    growth();
-    findings();
+    if std::env::args().all(|word| word != "--slow") {
+        tables();
+        growth();
+        findings();
+    }
+    slowest::rows();
 }
