@@ -5,7 +5,7 @@ N ?= 100000
 SEED ?= 1
 T ?= 60
 
-.PHONY: demo test lib install bench cases second fuzz afl clean
+.PHONY: demo test lib install bench bench-slow slow cases second fuzz afl clean
 
 # Proves and builds what it needs, and tells the story of the clock tree: the tables and the findings by the proved archive,
 # and one line by the program.
@@ -38,6 +38,14 @@ install: lib
 # Time and stack, side by side with the second program; writes bench/results.md. On an idle machine.
 bench: lib
 	bench/run.sh
+
+# The same for the inputs that cost most alone; writes nothing.
+bench-slow: lib
+	bench/run.sh --slow
+
+# What those inputs cost in instructions, cut to a size that runs in seconds, against the committed counts.
+slow: lib
+	tests/slow/run.sh
 
 # The archive against the second program: make fuzz N=1000000 SEED=7
 fuzz: lib
