@@ -1,13 +1,13 @@
 #!/bin/sh
 # Times the archive beside the second program and measures its stack, on an idle machine. Prints one table, and writes it to
-# bench/results.md (or to the file that is named) with the machine and the commit. run.sh --slow prints the table of the slow
-# inputs alone, and writes nothing.
+# bench/results.md (or to the file that is named) with the machine and the commit. run.sh --slow [WORD] prints the table of the
+# slow inputs alone, or of those with the word in their name, and writes nothing.
 set -eu
 cd "$(dirname "$0")/.."
 : "${CARGO_TARGET_DIR:=$PWD/build/cargo}"
 export CARGO_TARGET_DIR
 cargo build --offline --release --quiet --manifest-path bench/Cargo.toml
-[ "${1:-}" != --slow ] || exec "$CARGO_TARGET_DIR/release/bench" --slow
+[ "${1:-}" != --slow ] || exec "$CARGO_TARGET_DIR/release/bench" "$@"
 to=${1:-bench/results.md}
 mkdir -p build
 tests/host/stack.sh > build/stack.log || true # over a limit: it says so, and the gate refuses it

@@ -4,7 +4,9 @@
 //! the growth with the length; complete clearances; a witness; and the slow
 //! inputs.
 //!
-//! usage: bench [--slow]   only the slow inputs
+//! usage: bench                every row
+//!        bench --slow [WORD]  the slow inputs alone, or those with the word
+//!                             in their name
 
 mod shapes;
 mod slowest;
@@ -214,11 +216,12 @@ fn growth() {
 }
 
 fn main() {
+    let words: Vec<String> = std::env::args().skip(1).collect();
     heads();
-    if std::env::args().all(|word| word != "--slow") {
+    if words.is_empty() {
         tables();
         growth();
         findings();
     }
-    slowest::rows();
+    slowest::rows(words.get(1).map_or("", String::as_str));
 }

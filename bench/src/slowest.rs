@@ -13,11 +13,11 @@ const LONGEST: Duration = Duration::from_secs(60);
 /// The leaves of a clearance are cut to this part, to see what the whole takes.
 const PART: usize = 100;
 
-/// Every slow input: a line of the table each, and one more behind the table
-/// for each that was cut.
-pub fn rows() {
+/// The slow inputs with a word in their name: a line of the table each, and one
+/// more behind the table for each that was cut.
+pub fn rows(word: &str) {
     let mut cuts = Vec::new();
-    for kind in KINDS {
+    for kind in KINDS.iter().filter(|kind| kind.name.contains(word)) {
         for &full in kind.full {
             let (size, whole) = fitting(kind, full);
             row(kind, size);
