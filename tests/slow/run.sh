@@ -11,10 +11,10 @@ slow=$CARGO_TARGET_DIR/release/slow
 counts=tests/slow/counts.txt
 dumps=build/slow
 
-# valgrind, from the system's packages where it is missing and that can be done.
+# Whether valgrind runs here; it is installed from the system's packages where it is missing and that can be done.
 has_valgrind() {
-    command -v valgrind > /dev/null || apt-get install -y valgrind > build/slow-install.log 2>&1 || true
-    command -v valgrind > /dev/null
+    command -v valgrind > /dev/null || timeout 120 apt-get install -y valgrind > build/slow-install.log 2>&1 || true
+    valgrind -q --tool=none true > /dev/null 2>&1
 }
 
 # One dump for each call of the archive, with the instructions between its entry and its return.

@@ -1,7 +1,7 @@
 //! Clearances whose every leaf is closed, and dear: what one leaf reads, times
 //! the leaves of a finding.
 
-use crate::nodes::{self, chain, doubled, equal, one_tree, trees, Pair};
+use crate::nodes::{self, chain, doubled, equal, equal_trees, one_tree, trees, Pair};
 use crate::{constants, filled, finding_case, Size, M, N, Y};
 use second::cases::Case;
 use second::sketch::{clearance, Sketch, Tree};
@@ -41,10 +41,15 @@ fn book(prompt: u16, split_kind: u8) -> Sketch {
 /// A tree of so many leaves, all alike, that is as low as can be; `ways` is 2
 /// where booleans are split and 3 for tristates.
 fn bush(leaves: usize, ways: usize, symbol: u16, leaf: &Tree) -> Tree {
-    if leaves < ways {
+    with_splits((leaves - 1) / (ways - 1), ways, symbol, leaf)
+}
+
+/// The same by the splits that it has.
+fn with_splits(splits: usize, ways: usize, symbol: u16, leaf: &Tree) -> Tree {
+    if splits == 0 {
         return leaf.clone();
     }
-    let part = |way: usize| bush((leaves + way) / ways, ways, symbol + 1, leaf);
+    let part = |way: usize| with_splits((splits - 1 + way) / ways, ways, symbol + 1, leaf);
     Tree::Split(symbol, (0..ways).map(part).collect())
 }
 
@@ -76,11 +81,29 @@ pub fn conditions_are_deep_trees(size: Size) -> Case {
     with_conditions(sketch, &roots, size.leaves)
 }
 
+/// The same trees over equalities of tristates.
+pub fn conditions_are_trees_of_equalities(size: Size) -> Case {
+    let mut sketch = book(N, 0);
+    let roots = equal_trees(&mut sketch, size.book, [FREE_NODE, FREE_NODE]);
+    with_conditions(sketch, &roots, size.leaves)
+}
+
+/// The conditions are chains of so many nodes each.
+fn with_chains(size: Size, length: usize) -> Case {
+    let mut sketch = book(N, 0);
+    let count = size.book / length;
+    let ends: Vec<u16> = (0..count).map(|_| chain(&mut sketch, length, FREE_NODE)).collect();
+    with_conditions(sketch, &ends, size.leaves)
+}
+
 /// The conditions are chains of nine nodes: such a pass for each chain.
 pub fn conditions_are_chains_of_nine(size: Size) -> Case {
-    let mut sketch = book(N, 0);
-    let ends: Vec<u16> = (0..size.book / 9).map(|_| chain(&mut sketch, 9, FREE_NODE)).collect();
-    with_conditions(sketch, &ends, size.leaves)
+    with_chains(size, 9)
+}
+
+/// The conditions are chains of 65 nodes: too deep for a memory of 64.
+pub fn conditions_are_chains_of_65(size: Size) -> Case {
+    with_chains(size, 65)
 }
 
 /// The conditions are on one chain, each ninth node of it from the bottom up.
@@ -153,6 +176,21 @@ pub fn unread_equalities_of_a_tristate(size: Size) -> Case {
     let pair = [FREE_NODE, sketch.int(i32::MIN)];
     (0..size.book).for_each(|_| _ = equal(&mut sketch, pair));
     let last = chain(&mut sketch, 12, FREE_NODE);
+    with_conditions(sketch, &[last], size.leaves)
+}
+
+/// The nodes of a chain stand far apart, with nodes between them that no leaf
+/// reads: whoever passes over all nodes to find those that are read pays.
+pub fn read_nodes_stand_far_apart(size: Size) -> Case {
+    let mut sketch = book(N, 0);
+    let pair = nodes::ints(&mut sketch);
+    let mut last = FREE_NODE;
+    for step in 0..size.book {
+        equal(&mut sketch, pair);
+        if step % 100 == 99 {
+            last = sketch.node(6, last, FREE_NODE);
+        }
+    }
     with_conditions(sketch, &[last], size.leaves)
 }
 
@@ -296,6 +334,14 @@ pub fn defaults_are_on_the_place(size: Size) -> Case {
     with_conditions(book(N, 0), &vec![FREE_NODE; size.book], size.leaves)
 }
 
+/// Rule 13 at a symbol that has half of its records in defaults and half in
+/// selects.
+pub fn defaults_and_selects_are_on_the_place(size: Size) -> Case {
+    let mut sketch = book(N, 0);
+    sketch.selects.extend(vec![[FREE, PLACE, N]; size.book / 2]);
+    with_conditions(sketch, &vec![FREE_NODE; size.book / 2], size.leaves)
+}
+
 /// A clearance with so many leaves of rule 11 at the place, which is n there
 /// while the selector is y.
 fn lower_leaves(mut sketch: Sketch, leaves: usize) -> Case {
@@ -415,9 +461,9 @@ pub fn tristates_are_split(size: Size) -> Case {
     finding_case(&sketch, &clearance(0, &tree))
 }
 
-/// A clearance on a book of trees, for the ends below.
+/// A clearance that is good, for the ends below.
 fn before_the_end(size: Size) -> Case {
-    a_condition_is_one_tree(size)
+    a_condition_is_one_chain(size)
 }
 
 /// The whole tree is good, and a byte is left over.

@@ -132,6 +132,20 @@ pub const KINDS: &[Kind] = &[
         leaves(1026, 16),
         Book
     ),
+    kind!(
+        clearances::conditions_are_chains_of_65,
+        0,
+        [leaves(10400, 9300)],
+        leaves(1040, 16),
+        Book
+    ),
+    kind!(
+        clearances::conditions_are_trees_of_equalities,
+        0,
+        [leaves(10731, 9300)],
+        leaves(1022, 8),
+        Book
+    ),
     kind!(clearances::conditions_climb_one_chain, 0, [leaves(9603, 9300)], leaves(1026, 16), Book),
     kind!(
         clearances::conditions_descend_one_chain,
@@ -152,6 +166,7 @@ pub const KINDS: &[Kind] = &[
     kind!(clearances::conditions_are_one_node, 0, [leaves(10700, 9300)], leaves(1000, 64), Book),
     kind!(clearances::values_are_deep_trees, 0, [leaves(10220, 9300)], leaves(1022, 8), Book),
     kind!(clearances::unread_equalities_below, 0, [leaves(10700, 9300)], leaves(1000, 64), Book),
+    kind!(clearances::read_nodes_stand_far_apart, 0, [leaves(10600, 9300)], leaves(1000, 64), Book),
     kind!(clearances::unread_nodes, 0, [leaves(10700, 9300)], leaves(4000, 500), Book),
     kind!(
         clearances::unread_equalities_of_a_tristate,
@@ -204,6 +219,13 @@ pub const KINDS: &[Kind] = &[
     ),
     kind!(clearances::defaults_are_on_the_place, 0, [leaves(10750, 9300)], leaves(1000, 64), Book),
     kind!(
+        clearances::defaults_and_selects_are_on_the_place,
+        0,
+        [leaves(10740, 9300)],
+        leaves(1000, 64),
+        Book
+    ),
+    kind!(
         clearances::selects_are_on_another_symbol,
         0,
         [leaves(10750, 9300)],
@@ -211,11 +233,11 @@ pub const KINDS: &[Kind] = &[
         Book
     ),
     kind!(clearances::selects_are_on_the_place, 0, [leaves(10750, 9300)], leaves(1000, 64), Book),
-    kind!(clearances::selects_have_deep_trees, 0, [leaves(10731, 63)], leaves(1022, 8), Book),
+    kind!(clearances::selects_have_deep_trees, 0, [leaves(10731, 9300)], leaves(1022, 8), Book),
     kind!(
         clearances::a_prompt_and_selects_are_trees,
         0,
-        [leaves(10731, 63)],
+        [leaves(10731, 9300)],
         leaves(1022, 8),
         Book
     ),

@@ -10,18 +10,25 @@ const DEPTH: u32 = 8;
 /// The nodes of one such tree.
 const IN_TREE: usize = (2 << DEPTH) - 1;
 
-/// A binary tree over one leaf; gives its root.
-fn tree(sketch: &mut Sketch, depth: u32, leaf: u16) -> u16 {
+/// A binary tree whose lowest nodes are of this op over this pair; gives its
+/// root.
+fn tree(sketch: &mut Sketch, depth: u32, op: u8, pair: [u16; 2]) -> u16 {
     if depth == 0 {
-        return sketch.node(6, leaf, leaf);
+        return sketch.node(op, pair[0], pair[1]);
     }
-    let (left, right) = (tree(sketch, depth - 1, leaf), tree(sketch, depth - 1, leaf));
+    let [left, right] = [0, 1].map(|_| tree(sketch, depth - 1, op, pair));
     sketch.node(6 + (depth % 2) as u8, left, right)
 }
 
-/// Binary trees of depth 8, together of about so many nodes; gives the roots.
+/// Binary trees of depth 8 over one leaf, together of about so many nodes;
+/// gives the roots.
 pub fn trees(sketch: &mut Sketch, nodes: usize, leaf: u16) -> Vec<u16> {
-    (0..nodes / IN_TREE).map(|_| tree(sketch, DEPTH, leaf)).collect()
+    (0..nodes / IN_TREE).map(|_| tree(sketch, DEPTH, 6, [leaf, leaf])).collect()
+}
+
+/// The same over equalities of a pair.
+pub fn equal_trees(sketch: &mut Sketch, nodes: usize, pair: [u16; 2]) -> Vec<u16> {
+    (0..nodes / IN_TREE).map(|_| tree(sketch, DEPTH, 8, pair)).collect()
 }
 
 /// One binary tree of about so many nodes; gives its root.
