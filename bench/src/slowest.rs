@@ -10,6 +10,9 @@ use std::time::Duration;
 /// The longest that a call of the archive may take.
 const LONGEST: Duration = Duration::from_secs(60);
 
+/// How long the calls of one side are timed.
+const TOGETHER: Duration = Duration::from_millis(200);
+
 /// The leaves of a clearance are cut to this part, to see what the whole takes.
 const PART: usize = 100;
 
@@ -52,8 +55,8 @@ fn fitting(kind: &Kind, full: Size) -> (Size, Duration) {
 /// Times both sides on one input, and prints its line; they must answer alike.
 fn row(kind: &Kind, size: Size) {
     let case = kind.case(size);
-    let (ours, archive) = run::quickest(run::archive, &case);
-    let (theirs, second) = run::quickest(run::second, &case);
+    let (ours, archive) = run::quickest(run::archive, &case, TOGETHER);
+    let (theirs, second) = run::quickest(run::second, &case, TOGETHER);
     assert_eq!(ours, theirs, "{}", kind.name);
     assert!(kind.is_due(&case, &ours), "{}: {:?}", kind.name, ours.numbers);
     let what = match size.leaves {

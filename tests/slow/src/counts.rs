@@ -10,6 +10,9 @@ use std::time::Duration;
 /// be counted.
 pub const FAIR: &str = "a_fair_book";
 
+/// How long the calls of one input are timed.
+const TOGETHER: Duration = Duration::from_millis(50);
+
 /// Calls the archive once for each input, each kind in both of its sizes: the
 /// calls whose instructions are counted, in the order of their dumps.
 pub fn calls() {
@@ -44,7 +47,8 @@ fn total(folder: &Path, number: usize) -> Result<f64, String> {
 
 /// The costs by time, as if a fair book cost what it was committed to cost.
 pub fn timed(fair: f64) -> Costs {
-    let time = |kind: &Kind, size| seconds(run::quickest(run::archive, &kind.case(size)).1);
+    let time =
+        |kind: &Kind, size| seconds(run::quickest(run::archive, &kind.case(size), TOGETHER).1);
     let measure =
         KINDS.iter().find(|kind| kind.name == FAIR).map_or(1.0, |kind| time(kind, kind.cut));
     let scaled = |kind: &Kind, size| time(kind, size) * fair / measure;

@@ -13,8 +13,8 @@ use slow::{run, selftest};
 use std::path::Path;
 use std::process::ExitCode;
 
-/// How much more may be asked of times than of counts: they are shared with
-/// whatever else the machine does, and no two machines share them alike.
+/// How many times wider the margin is for times than for counts: a machine is
+/// shared with whatever else it does, and no two are alike.
 const SLACK: f64 = 4.0;
 
 fn main() -> ExitCode {
