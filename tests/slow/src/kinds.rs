@@ -83,6 +83,8 @@ pub const KINDS: &[Kind] = &[
     kind!(names::names_differ_in_the_middle, 0, [of(900)], of(450), Book),
     kind!(names::names_share_56_letters, 0, [of(900)], of(450), Book),
     kind!(names::names_differ_at_the_end, 0, [of(900)], of(450), Book),
+    kind!(names::names_differ_in_one_letter, 0, [of(900)], of(450), Book),
+    kind!(names::names_of_the_same_words, 0, [of(900)], of(450), Book),
     kind!(names::names_like_snd_0001_soc, 0, [of(3200)], of(1500), Book),
     kind!(names::names_of_the_same_letters, 0, [of(2900)], of(1450), Book),
     kind!(names::names_as_short_as_can_be, 0, [of(8000)], of(2000), Book),

@@ -149,6 +149,29 @@ pub fn names_differ_at_the_end(size: Size) -> Case {
     name_of_last(&numbered(size.book, |number| with_digits(number, LONG - 5)))
 }
 
+/// All letters are shared but one, which stands anywhere: a key of some of the
+/// letters is the same for most of them.
+pub fn names_differ_in_one_letter(size: Size) -> Case {
+    name_of_last(&numbered(size.book, |number| {
+        let mut name = vec![b'A'; LONG];
+        name[number % LONG] = LETTERS[number / LONG];
+        name
+    }))
+}
+
+/// The same eight words in another order: a sum over words tells nothing.
+pub fn names_of_the_same_words(size: Size) -> Case {
+    name_of_last(&numbered(size.book, |number| {
+        let mut words: Vec<[u8; 8]> = (0..8).map(|word| [b'A' + word; 8]).collect();
+        let (mut left, mut name) = (number, Vec::new());
+        for count in (1..=8).rev() {
+            name.extend(words.remove(left % count));
+            left /= count;
+        }
+        name
+    }))
+}
+
 /// Numbered names, as a driver's family has them.
 pub fn names_like_snd_0001_soc(size: Size) -> Case {
     name_of_last(&numbered(size.book, |number| format!("SND_{number:04}_SOC").into_bytes()))
