@@ -88,7 +88,9 @@ pub fn faults(names: &[&str], costs: &Costs, dues: &Dues, slack: f64) -> Vec<Str
     let mut faults = Vec::new();
     for &name in names {
         match (costs.get(name), dues.get(name)) {
-            (None, _) => faults.push(format!("{name}: was not measured")),
+            (None | Some(Cost { cut: 0.0, .. }), _) => {
+                faults.push(format!("{name}: was not measured"));
+            }
             (_, None) => faults.push(format!("{name}: has no committed count")),
             (Some(cost), Some(due)) => faults.extend(over(name, cost, due, slack)),
         }

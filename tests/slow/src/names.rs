@@ -121,7 +121,7 @@ pub fn names_share_ends_at_every_length(size: Size) -> Case {
     name_of_last(&book(text, &places))
 }
 
-/// The same names before a table check.
+/// Names that share their ends, before a table check.
 pub fn names_of_a_table(size: Size) -> Case {
     let sketch = runs(size.book, 3, b'A');
     table_case(&sketch, &vec![Value::Three(0); size.book])

@@ -56,6 +56,7 @@ fn found(name: &str, costs: &Costs, dues: &Dues) -> bool {
         && faults(&names(), &with(times(1.99)), dues, 1.0).is_empty()
         && named(&with(steep), dues)
         && named(&unmeasured, dues)
+        && named(&with(Cost { cut: 0.0, ..cost }), dues)
         && named(costs, &uncommitted)
         && gone.len() == 1
         && gone[0].starts_with("an_input_that_is_gone: ")
