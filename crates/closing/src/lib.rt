@@ -5,12 +5,11 @@ ghost use mathlib.Core.Path.{_≡_};
 ghost use mathlib.Core.Bool.{_&&_};
 ghost use Prim.Native.Nat.{_<_};
 ghost use lib.Dec.{ltb};
-ghost use lib.ListN.{replicate};
-ghost use Rattle.meaning.specs.Book.{nodes as nodesOf, memberCount};
+ghost use Rattle.meaning.specs.Book.{memberCount};
 ghost use Rattle.meaning.specs.Rules.{atLeast};
 ghost use Rattle.meaning.specs.Sets.{every, nodeSets};
 ghost use Rattle.meaning.specs.Clearance.{closed11, closed12, closed13, closed15, closed17, closed18, closed20, closed as closedOf, closedOn};
-ghost use Rattle.sets.specs.Work.{Known};
+ghost use Rattle.sets.specs.Work.{Known, blankOf};
 ghost use Rattle.closing.specs.Broken.{brokenBy, everyPick, boundOf};
 use tri::Tri;
 
@@ -193,13 +192,12 @@ fn closed(m: &[u8], q: usize, ys: &[u8], w: &mut [u8], rule: u8, place: usize) -
     }
 }
 
-// Whether a leaf is closed on the path where the symbols' sets are ys. The node work has one zero a node, before and after.
+// Whether a leaf is closed on the path where the symbols' sets are ys. The node work is blank, before and after.
 pub fn closed_on(m: &[u8], q: usize, ys: &[u8], w: &mut [u8], rule: u8, place: usize) -> bool
-    requires { ⌜ (q < 65536) × (place < 65536) × (now w ≡ replicate (nodesOf (now m)) 0) ⌝ }
+    requires { ⌜ (q < 65536) × (place < 65536) × (now w ≡ blankOf (now m)) ⌝ }
     ensures { λ r. ⌜ (r ≡ closedOn (now (m .entry)) q (now (ys .entry)) rule place) × (now (w .exit) ≡ now (w .entry)) ⌝ }
 {
     let all = closed(m, q, ys, w, rule, place);
-    let n = w.len();
-    sets::clear(w, n);
+    sets::settle(w);
     all
 }

@@ -22,12 +22,11 @@ use Rattle.meaning.specs.Rules.{ruleFault, unmet}
 use Rattle.meaning.specs.Sets.{has, only, full, fullSets, sat}
 use Rattle.meaning.specs.Picks.{In}
 use Rattle.meaning.specs.Findings.{selectOf, findingKind, clearanceFault, bytesOf, tableOf, leafBytes, completeTree, complete}
-use Rattle.meaning.proofs.Folds.{tabulate-length}
+use Rattle.meaning.proofs.Folds.{tabulate-at, tabulate-past, tabulate-length}
 use Rattle.demands.specs.Refused.{GoodHead}
 use Rattle.demands.proofs.Lifts.{full-n, Is, is-lifts}
 use Rattle.demands.proofs.Relate.{Rel, nil, cons, snoc, rel-at}
 use Rattle.demands.proofs.Counts.{below-or-past}
-use Rattle.demands.proofs.Tabulated.{tabulate-at, tabulate-past}
 use Rattle.demands.proofs.Bytes.{At, at-whole, at-read, at-skip, at-half}
 use Rattle.demands.proofs.Trees.{WalkedThrough, leaf-walked, two-walked, three-walked}
 use Rattle.demands.proofs.Leaves.{readable, Good, good-rules, good20}

@@ -11,6 +11,7 @@ ghost use Rattle.meaning.specs.Sets.{fullSets};
 ghost use Rattle.meaning.specs.Clearance.{leafStands, leafHead, splitHead, headOf};
 ghost use Rattle.meaning.specs.Findings.{headFault, witnessFault, walkFault, clearanceFault, bodyFault};
 ghost use Rattle.meaning.specs.declared.Walked.the-variants.{Next};
+ghost use Rattle.sets.specs.Work.{blankOf};
 ghost use Rattle.findings.specs.Walks.{decoded, walked, splitsAt, StandsIn};
 ghost use Rattle.findings.specs.Found.{Found};
 use meaning::Head;
@@ -82,7 +83,7 @@ fn head_at(m: &[u8], q: usize, f: &[u8], ys: &[u8], at: usize) -> Head
 // What stands at an offset, walked as if no split were allowed any more. The slices that a walk hands on unread are behind one
 // reference more: that keeps its frames small.
 fn leaf(m: &&[u8], f: &&[u8], at: usize, ys: &mut [u8], w: &mut [u8]) -> usize
-    requires { ⌜ (at < 65536) × (length (now (now f)) < 65536) × (now w ≡ replicate (nodesOf (now (now m))) 0) ⌝ }
+    requires { ⌜ (at < 65536) × (length (now (now f)) < 65536) × (now w ≡ blankOf (now (now m))) ⌝ }
     ensures { λ r. ⌜ (decoded r ≡ walked (now (now (m .entry))) (now (now (f .entry))) 0 (Next at) (now (ys .entry))) × (r < 196608) × (now (ys .exit) ≡ now (ys .entry)) × (now (w .exit) ≡ now (w .entry)) ⌝ }
 {
     let q = raw::half(*f, 0);
@@ -109,7 +110,7 @@ fn splits(f: &[u8], ys: &[u8], at: usize) -> bool
 
 // Walks on from where the walk stands, with so many splits still allowed on the path.
 fn branch(m: &&[u8], f: &&[u8], left: usize, from: usize, ys: &mut [u8], w: &mut [u8]) -> usize
-    requires { ⌜ (from < 196608) × (length (now (now f)) < 65536) × (now w ≡ replicate (nodesOf (now (now m))) 0) ⌝ }
+    requires { ⌜ (from < 196608) × (length (now (now f)) < 65536) × (now w ≡ blankOf (now (now m))) ⌝ }
     ensures { λ r. ⌜ (decoded r ≡ walked (now (now (m .entry))) (now (now (f .entry))) left (decoded from) (now (ys .entry))) × (r < 196608) × (now (ys .exit) ≡ now (ys .entry)) × (now (w .exit) ≡ now (w .entry)) ⌝ }
 {
     if 65535 < from {
@@ -123,7 +124,7 @@ fn branch(m: &&[u8], f: &&[u8], left: usize, from: usize, ys: &mut [u8], w: &mut
 
 // Walks the split that stands at an offset: its branches in order, each with one value. The symbol's set ends as it began.
 fn split(m: &&[u8], f: &&[u8], left: usize, at: usize, ys: &mut [u8], w: &mut [u8]) -> usize
-    requires { ⌜ (0 < left) × (splitsAt (now (now f)) (now ys) at ≡ true) × (length (now (now f)) < 65536) × (now w ≡ replicate (nodesOf (now (now m))) 0) ⌝ }
+    requires { ⌜ (0 < left) × (splitsAt (now (now f)) (now ys) at ≡ true) × (length (now (now f)) < 65536) × (now w ≡ blankOf (now (now m))) ⌝ }
     ensures { λ r. ⌜ (decoded r ≡ walked (now (now (m .entry))) (now (now (f .entry))) left (Next at) (now (ys .entry))) × (r < 196608) × (now (ys .exit) ≡ now (ys .entry)) × (now (w .exit) ≡ now (w .entry)) ⌝ }
 {
     let s = raw::half(*f, at + 1);
@@ -154,7 +155,7 @@ fn fill_sets(m: &[u8], ys: &mut [u8])
 
 // Walks the whole tree, from where the head ends.
 fn tree(m: &[u8], f: &[u8], ys: &mut [u8], w: &mut [u8]) -> usize
-    requires { ⌜ (length (now f) < 65536) × (now w ≡ replicate (nodesOf (now m)) 0) ⌝ }
+    requires { ⌜ (length (now f) < 65536) × (now w ≡ blankOf (now m)) ⌝ }
     ensures { λ r. ⌜ (decoded r ≡ walked (now (m .entry)) (now (f .entry)) 64 (Next 4) (now (ys .entry))) × (r < 196608) × (now (ys .exit) ≡ now (ys .entry)) × (now (w .exit) ≡ now (w .entry)) ⌝ }
 {
     let split_there = splits(f, ys, 4);
@@ -183,8 +184,7 @@ fn clearance_fault(m: &[u8], f: &[u8], w: &mut [u8], ys: &mut [u8]) -> Outcome
     requires { ⌜ (length (now f) < 65536) × (length (now w) ≡ nodesOf (now m)) × (length (now ys) ≡ symbolsOf (now m)) ⌝ }
     ensures { λ r. ⌜ (r ≡ clearanceFault (now (m .entry)) (now (f .entry))) × (length (now (w .exit)) ≡ nodesOf (now (m .entry))) × (length (now (ys .exit)) ≡ symbolsOf (now (m .entry))) ⌝ }
 {
-    let n = w.len();
-    sets::clear(w, n);
+    sets::blank(m, w);
     fill_sets(m, ys);
     let end = tree(m, f, ys, w);
     walk_fault(f, end)

@@ -5,7 +5,7 @@ use lib.ListN.{length, getD, drop, replicate, set, length-replicate}
 use lib.Seq.{drop-cons, set-at}
 use native.Mathlib.Numerals.{add-one}
 use native.Mathlib.Nat.{le-of-suc-le-suc}
-use mathlib.Core.Bool.{Bool, true, false, _||_}
+use mathlib.Core.Bool.{Bool, true, false}
 use Prim.Native.Nat.{ℕ, zero, suc, _+_, _≤_, _<_}
 use native.Mathlib.Omega.{arith}
 use borrow.Author.Tests.{eq-eqb, ne-eqb, le-leb, lt-leb}
@@ -14,7 +14,7 @@ use Rattle.meaning.specs.Base.{pick, fold, part, sameText}
 use Rattle.meaning.specs.Book.{opOf, leftOf, targetOf}
 use Rattle.meaning.specs.Spell.{spelled}
 use Rattle.meaning.specs.Values.{leafOf, yesNo}
-use Rattle.meaning.specs.Sets.{has, only, withOne, row, pairs, sat, leafSet, isFree, spelledAt, equalAt, equalSet, givenSet, lowerSetStep}
+use Rattle.meaning.specs.Sets.{has, only, withOne, row, pairs, sat, leafSet, spelledAt, equalAt, givenSet, lowerSetStep}
 use Rattle.meaning.specs.Findings.{zeroed}
 use Rattle.spell.specs.declared.Leaf.{Leaf}
 use Rattle.spell.specs.declared.Leaf.the-variants.{Three}
@@ -81,7 +81,7 @@ module _ (m ys : List ℕ) (i : ℕ) {op left : ℕ} (eo : op ≡ opOf m i) (el 
   set-other a b = rw (← eo, ne-eqb op 0 a, ne-eqb op 1 b)
 
 -- EQUALITIES: a leaf at a value, two of them, and their sets
-none-part : (m : List ℕ) {t : List ℕ} → t ≡ part m 0 0 → t ≡ []
+pub none-part : (m : List ℕ) {t : List ℕ} → t ≡ part m 0 0 → t ≡ []
 unfolding part
 none-part m e = e
 
@@ -99,15 +99,6 @@ pub equal-at-is : (m : List ℕ) (i j v x : ℕ) {t : List ℕ} {h k : Bool} {r 
     → h ≡ sameText (spelledLeaf m t a) (spelledLeaf m t b) → h ≡ k → r ≡ yesNo k → r ≡ equalAt m i j v x
 unfolding equalAt
 equal-at-is m i j v x a b et ea eb eh ek er = er ∙ rw (← ek, ← ea, ← eb, ← none-part m et) (ap yesNo eh)
-
-module _ (m ys : List ℕ) (i j : ℕ) {a b : Bool} (ea : a ≡ isFree m i) (eb : b ≡ isFree m j) where
-  pub free-either : (a || b) ≡ true → 5 ≡ equalSet m ys i j
-  unfolding equalSet
-  free-either t = rw (← ea, ← eb, t)
-
-  pub both-three : {l k r : ℕ} → (a || b) ≡ false → l ≡ leafSet m ys i → k ≡ leafSet m ys j → r ≡ pairs (equalAt m i j) l k → r ≡ equalSet m ys i j
-  unfolding equalSet
-  both-three t el ek er = rw (← ea, ← eb, t, ← el, ← ek) er
 
 -- LOWER, a record at a time
 module _ (m ys ss : List ℕ) (s k low : ℕ) {target : ℕ} (et : target ≡ targetOf m k) where

@@ -1,4 +1,5 @@
 pub mod Defaults
 pub mod Laws
+pub mod Equal
 pub mod Nodes
 pub mod Unique

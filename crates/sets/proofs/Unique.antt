@@ -1,5 +1,8 @@
 -- From one input no second answer meets what a public function of this crate ensures: of the contracts themselves, as Rattle reads them. Assumes nothing.
 use mathlib.Core.Path.{sym, _∙_}
+use Prim.Native.Nat.{_<_}
+use lib.ListN.{length}
+use lib.Seq.{ext-getD}
 use denote.Ref.{now}
 use Rattle.tri.specs.Once.{Once, OnceIn}
 use Rattle.sets.proofs.has.Kinds as has-kinds
@@ -22,6 +25,10 @@ use Rattle.sets.proofs.default_of.Kinds as default-of-kinds
 use Rattle.sets.proofs.default_of.Reads as default-of-reads
 use Rattle.sets.proofs.clear.Kinds as clear-kinds
 use Rattle.sets.proofs.clear.Reads as clear-reads
+use Rattle.sets.proofs.blank.Kinds as blank-kinds
+use Rattle.sets.proofs.blank.Reads as blank-reads
+use Rattle.sets.proofs.settle.Kinds as settle-kinds
+use Rattle.sets.proofs.settle.Reads as settle-reads
 
 pub has-once : Once 0 has-kinds.ps has-kinds.r has-reads.Post
 has-once κs a x y s t p q = p ∙ sym q
@@ -53,3 +60,10 @@ default-of-once κs a x y s t p q = p .0 ∙ sym (q .0)
 
 pub clear-once : OnceIn 1 clear-kinds.ps clear-kinds.r clear-reads.Post (λ κs x s. now (s .0))
 clear-once κs a x y s t p q = p ∙ sym q
+
+pub blank-once : OnceIn 2 blank-kinds.ps blank-kinds.r blank-reads.Post (λ κs x s. now (s .1 .0))
+blank-once κs a x y s t p q = p ∙ sym q
+
+pub settle-once : OnceIn 1 settle-kinds.ps settle-kinds.r settle-reads.Post (λ κs x s. now (s .0))
+settle-once κs a x y s t p q =
+    ext-getD 0 (now (s .0)) (now (t .0)) (p .0 ∙ sym (q .0)) (λ i l. let k : i < length (now (a .0)) = rw (p .0) at l in p .1 i k ∙ sym (q .1 i k))

@@ -3,25 +3,25 @@
 // A set is a byte: 1 for n, 2 for m, 4 for y, added up. `ys` has the symbols' sets. The node work keeps the set of a node once it
 // is worked out, so that only what is read is worked out, and that once.
 ghost use mathlib.Core.Path.{_≡_};
-ghost use mathlib.Core.Bool.{_||_};
-ghost use Prim.Native.Nat.{_+_, _<_, _≤_, _^_};
-ghost use mathlib.Core.List.{[]};
-ghost use lib.Dec.{eqb};
-ghost use lib.ListN.{length};
+ghost use mathlib.Core.Bool.{_||_, true, false};
+ghost use Prim.Native.Nat.{ℕ, _+_, _<_, _≤_, _^_};
+ghost use lib.Dec.{eqb, leb};
+ghost use lib.ListN.{length, getD};
 ghost use Rattle.tri.specs.Three.{triOf, andOf, orOf};
 ghost use Rattle.meaning.specs.Base.{pick};
-ghost use Rattle.meaning.specs.Book.{start as startOf, nodes as nodesOf, defaultValue};
+ghost use Rattle.meaning.specs.Book.{start as startOf, nodes as nodesOf, opOf, defaultValue};
 ghost use Rattle.meaning.specs.Sets.{has as hasOf, setOf, only as onlyOf, full as fullOf, withOne, join as joinOf, pairs as pairsOf};
-ghost use Rattle.meaning.specs.Sets.{least as leastOf, most as mostOf, sat, leafSet, isFree, spelledAt, equalAt, equalSet, notSet, nodeSets};
+ghost use Rattle.meaning.specs.Sets.{least as leastOf, most as mostOf, sat, leafSet, isFree, equalAt, equalSet, notSet, nodeSets};
 ghost use Rattle.meaning.specs.Sets.{givenSet, lowerSetStep, lowerSet, defaultSet};
 ghost use Rattle.meaning.specs.Findings.{zeroed};
-ghost use Rattle.spell.specs.Leaves.{spelledLeaf};
-ghost use Rattle.sets.specs.Work.{applied, equalityOf, among, Known};
-use spell::Leaf;
+ghost use Rattle.sets.specs.Work.{alike, applied, SideOf, Lone, byLetter, equalityOf, among, fixed, blankAt, blankOf, lasting, keptSet, Known, WorkedOut};
 use tri::Tri;
 
-// How deep a node's operands are followed before all nodes below are worked out in order instead.
+// How deep a node's operands are followed before all nodes are worked out in order instead.
 const DEPTH: usize = 8;
+
+// The set of what may be n or y.
+const EITHER: u8 = 5;
 
 // Whether a set has a value.
 pub fn has(a: u8, v: u8) -> bool
@@ -212,40 +212,69 @@ fn is_free(m: &[u8], i: usize) -> bool
     (fields::op_of(m, i) == 1) & !fields::is_three(m, fields::left_of(m, i))
 }
 
-// Leaf i where its value is v.
-fn leaf_at(m: &[u8], i: usize, v: u8) -> Leaf
+// What an equality asks of a leaf: it is a string, int or hex symbol, has one of the values of a set, or is a text or a number.
+enum Side {
+    Free,
+    Three(u8),
+    Plain,
+}
+
+// What an equality asks of leaf i.
+fn side_of(m: &[u8], ys: &[u8], i: usize) -> Side
     requires { ⌜ i < 2 ^ 32 ⌝ }
-    ensures { λ r. ⌜ spelledLeaf (now (m .entry)) [] r ≡ spelledAt (now (m .entry)) i v ⌝ }
+    ensures { λ r. ⌜ SideOf (now (m .entry)) (now (ys .entry)) i r ⌝ }
 {
-    if fields::op_of(m, i) <= 1 {
-        return Leaf::Three(v);
+    let op = fields::op_of(m, i);
+    if op == 0 {
+        return Side::Three(constant(fields::left_of(m, i)));
     }
-    values::leaf(m, raw::part(m, 0, 0), i)
+    if op != 1 {
+        return Side::Plain;
+    }
+    let s = fields::left_of(m, i);
+    if fields::is_three(m, s) {
+        return Side::Three(at(ys, s));
+    }
+    Side::Free
 }
 
-// y where leaf i with value v and leaf j with value x are spelled alike, else n.
-fn equal_at(m: &[u8], i: usize, j: usize, v: u8, x: u8) -> u8
-    requires { ⌜ (i < 2 ^ 32) × (j < 2 ^ 32) ⌝ }
-    ensures { λ r. ⌜ r ≡ equalAt (now (m .entry)) i j v x ⌝ }
+// The one byte of leaf i, if it is a text of one; 0 for any other, and for a number: no letter spells those. What is no leaf is n.
+fn lone(m: &[u8], i: usize) -> u8
+    requires { ⌜ (i < 2 ^ 32) × (leb (opOf (now m) i) 1 ≡ false) ⌝ }
+    ensures { λ r. ⌜ Lone (now (m .entry)) i r ⌝ }
 {
-    if spell::same_spelling(m, raw::part(m, 0, 0), leaf_at(m, i, v), leaf_at(m, j, x)) {
-        2
-    } else {
-        0
+    let op = fields::op_of(m, i);
+    if 4 < op {
+        return spell::letter_of(0);
     }
+    if op != 2 {
+        return 0;
+    }
+    let at = fields::text_start(m) + fields::left_of(m, i);
+    let text = raw::part(m, at, fields::right_of(m, i));
+    if text.len() == 1 {
+        return text[0];
+    }
+    0
 }
 
-// Whether leaves i and j are equal, for every pair of a's and b's values.
-fn equal_pairs(m: &[u8], i: usize, j: usize, a: u8, b: u8) -> u8
-    requires { ⌜ (i < 2 ^ 32) × (j < 2 ^ 32) ⌝ }
-    ensures { λ r. ⌜ (r ≡ pairsOf (equalAt (now (m .entry)) i j) a b) × (r < 8) ⌝ }
+// y where the letter that spells v is this byte, else n.
+fn by_letter(b: u8, v: u8) -> u8
+    ensures { λ r. ⌜ r ≡ byLetter b v ⌝ }
+{
+    if spell::letter_of(v) == b { 2 } else { 0 }
+}
+
+// Whether two leaves are equal, for every pair of a's and b's values.
+fn equal_pairs(a: u8, b: u8) -> u8
+    ensures { λ r. ⌜ (r ≡ pairsOf alike a b) × (r < 8) ⌝ }
 {
     let mut out: u8 = 0;
     for x in 0u8..3 {
         if has(a, x) {
             for y in 0u8..3 {
                 if has(b, y) {
-                    out = with(out, equal_at(m, i, j, x, y));
+                    out = with(out, by_letter(spell::letter_of(y), x));
                 }
             }
         }
@@ -253,15 +282,66 @@ fn equal_pairs(m: &[u8], i: usize, j: usize, a: u8, b: u8) -> u8
     out
 }
 
+// Whether a text or a number with this one byte is equal to a leaf, for each of that one's values.
+fn letter_set(b: u8, a: u8) -> u8
+    ensures { λ r. ⌜ (r ≡ pairsOf (λ x y. byLetter b x) a 1) × (r < 8) ⌝ }
+{
+    let mut out: u8 = 0;
+    for x in 0u8..3 {
+        if has(a, x) {
+            out = with(out, by_letter(b, x));
+        }
+    }
+    out
+}
+
+// The set of an equality of two texts or numbers.
+fn plain_set(m: &[u8], i: usize, j: usize) -> u8
+    requires { ⌜ (i < 2 ^ 32) × (j < 2 ^ 32) × (leb (opOf (now m) i) 1 ≡ false) × (leb (opOf (now m) j) 1 ≡ false) ⌝ }
+    ensures { λ r. ⌜ (r ≡ pairsOf (equalAt (now (m .entry)) i j) 1 1) × (r < 8) ⌝ }
+{
+    let none = raw::part(m, 0, 0);
+    if spell::same_spelling(m, none, values::leaf(m, none, i), values::leaf(m, none, j)) {
+        4
+    } else {
+        1
+    }
+}
+
+// The set of an equality of leaf i, whose set is a, with leaf j.
+fn three_set(m: &[u8], ys: &[u8], a: u8, i: usize, j: usize) -> u8
+    requires { ⌜ (j < 2 ^ 32) × (isFree (now m) i ≡ false) × (a ≡ leafSet (now m) (now ys) i) × (leb (opOf (now m) i) 1 ≡ true) ⌝ }
+    ensures { λ r. ⌜ (r ≡ equalSet (now (m .entry)) (now (ys .entry)) i j) × (r < 8) ⌝ }
+{
+    match side_of(m, ys, j) {
+        Side::Free => EITHER,
+        Side::Three(b) => equal_pairs(a, b),
+        Side::Plain => letter_set(lone(m, j), a),
+    }
+}
+
+// The set of an equality of leaf i, a text or a number, with leaf j.
+fn other_set(m: &[u8], ys: &[u8], i: usize, j: usize) -> u8
+    requires { ⌜ (i < 2 ^ 32) × (j < 2 ^ 32) × (isFree (now m) i ≡ false) × (1 ≡ leafSet (now m) (now ys) i) × (leb (opOf (now m) i) 1 ≡ false) ⌝ }
+    ensures { λ r. ⌜ (r ≡ equalSet (now (m .entry)) (now (ys .entry)) i j) × (r < 8) ⌝ }
+{
+    match side_of(m, ys, j) {
+        Side::Free => EITHER,
+        Side::Three(b) => letter_set(lone(m, i), b),
+        Side::Plain => plain_set(m, i, j),
+    }
+}
+
 // The set of an equality of leaves i and j: either, where one is a string, int or hex symbol.
 fn equal_set(m: &[u8], ys: &[u8], i: usize, j: usize) -> u8
     requires { ⌜ (i < 2 ^ 32) × (j < 2 ^ 32) ⌝ }
     ensures { λ r. ⌜ (r ≡ equalSet (now (m .entry)) (now (ys .entry)) i j) × (r < 8) ⌝ }
 {
-    if is_free(m, i) | is_free(m, j) {
-        return 5;
+    match side_of(m, ys, i) {
+        Side::Free => EITHER,
+        Side::Three(a) => three_set(m, ys, a, i, j),
+        Side::Plain => other_set(m, ys, i, j),
     }
-    equal_pairs(m, i, j, leaf_set(m, ys, i), leaf_set(m, ys, j))
 }
 
 // The set of an equality of leaves i and j, or of what is unlike, by a node's op.
@@ -276,7 +356,133 @@ fn equality(m: &[u8], ys: &[u8], op: u8, i: usize, j: usize) -> u8
     }
 }
 
-// The set of node i among the first n. Past `depth` operands, all that stand before it are worked out in order first.
+// Whether an equality of leaves i and j is the same on every path.
+fn is_fixed(m: &[u8], i: usize, j: usize) -> bool
+    requires { ⌜ (i < 2 ^ 32) × (j < 2 ^ 32) ⌝ }
+    ensures { λ r. ⌜ r ≡ fixed (now (m .entry)) i j ⌝ }
+{
+    let symbol = (fields::op_of(m, i) == 1) | (fields::op_of(m, j) == 1);
+    is_free(m, i) | is_free(m, j) | !symbol
+}
+
+// The set that a byte of the node work keeps.
+fn set_in(x: u8) -> u8
+    ensures { λ r. ⌜ r ≡ keptSet x ⌝ }
+{
+    (x / 16 + x % 8) % 8
+}
+
+// What stands at node i before a leaf is looked at: its set where that is the same on every path.
+fn blank_at(m: &[u8], i: usize) -> u8
+    requires { ⌜ i < 2 ^ 32 ⌝ }
+    ensures { λ r. ⌜ r ≡ blankAt (now (m .entry)) i ⌝ }
+{
+    let op = fields::op_of(m, i);
+    if op < 8 {
+        return 0;
+    }
+    let left = fields::left_of(m, i);
+    let right = fields::right_of(m, i);
+    if is_fixed(m, left, right) {
+        return 128 + 16 * equality(m, raw::part(m, 0, 0), op, left, right);
+    }
+    0
+}
+
+// Writes what stands in the node work before a leaf is looked at.
+pub fn blank(m: &[u8], w: &mut [u8])
+    requires { ⌜ length (now w) ≡ nodesOf (now m) ⌝ }
+    ensures { λ _. ⌜ now (w .exit) ≡ blankOf (now (m .entry)) ⌝ }
+{
+    let n = fields::nodes(m);
+    let mut i: usize = 0;
+    while i < n {
+        w[i] = blank_at(m, i);
+        i += 1;
+    }
+}
+
+// A byte of the node work once a leaf is done with.
+fn kept(x: u8) -> u8
+    ensures { λ r. ⌜ r ≡ lasting x ⌝ }
+{
+    x / 16 * 16
+}
+
+// Takes back what was worked out for one leaf alone.
+pub fn settle(w: &mut [u8])
+    ensures { λ _. ⌜ (length (now (w .exit)) ≡ length (now (w .entry))) × ((i : ℕ) → i < length (now (w .entry)) → getD (now (w .exit)) i 0 ≡ lasting (getD (now (w .entry)) i 0)) ⌝ }
+{
+    let n = w.len();
+    let mut i: usize = 0;
+    while i < n {
+        w[i] = kept(w[i]);
+        i += 1;
+    }
+}
+
+// The set of operand k of node i, where every node before i but leaves is worked out.
+fn operand_at(m: &[u8], ys: &[u8], w: &[u8], i: usize, k: usize) -> u8
+    requires { ⌜ (k < 2 ^ 32) × (i ≤ nodesOf (now m)) × Known (now m) (now ys) (now w) × WorkedOut (now m) (now w) i ⌝ }
+    ensures { λ r. ⌜ r ≡ among (now (m .entry)) (now (ys .entry)) i k ⌝ }
+{
+    if i <= k {
+        return 1;
+    }
+    let known = raw::byte(w, k);
+    if known != 0 {
+        return set_in(known);
+    }
+    leaf_set(m, ys, k)
+}
+
+// The set of node i, where every node before it but leaves is worked out.
+fn from_before(m: &[u8], ys: &[u8], w: &[u8], i: usize) -> u8
+    requires { ⌜ (i < nodesOf (now m)) × (nodesOf (now m) < 65536) × Known (now m) (now ys) (now w) × WorkedOut (now m) (now w) i ⌝ }
+    ensures { λ r. ⌜ (r ≡ among (now (m .entry)) (now (ys .entry)) (i + 1) i) × (4 < opOf (now (m .entry)) i → r < 8) ⌝ }
+{
+    let op = fields::op_of(m, i);
+    if op <= 4 {
+        return leaf_set(m, ys, i);
+    }
+    let left = fields::left_of(m, i);
+    let right = fields::right_of(m, i);
+    if 7 < op {
+        return equality(m, ys, op, left, right);
+    }
+    let l = operand_at(m, ys, w, i, left);
+    let r = operand_at(m, ys, w, i, right);
+    pairs(op, l, operand(op, r))
+}
+
+// Works out node i, if it is not worked out yet.
+fn work_out(m: &[u8], ys: &[u8], w: &mut [u8], i: usize)
+    requires { ⌜ (i < nodesOf (now m)) × (nodesOf (now m) < 65536) × Known (now m) (now ys) (now w) × WorkedOut (now m) (now w) i ⌝ }
+    ensures { λ _. ⌜ Known (now (m .entry)) (now (ys .entry)) (now (w .exit)) × WorkedOut (now (m .entry)) (now (w .exit)) (i + 1) ⌝ }
+{
+    let known = raw::byte(w, i);
+    if known != 0 {
+        return;
+    }
+    let set = from_before(m, ys, w, i);
+    if 7 < set {
+        return;
+    }
+    raw::put(w, i, 8 + set);
+}
+
+// Works out every node, in order.
+fn all(m: &[u8], ys: &[u8], w: &mut [u8])
+    requires { ⌜ Known (now m) (now ys) (now w) ⌝ }
+    ensures { λ _. ⌜ Known (now (m .entry)) (now (ys .entry)) (now (w .exit)) × WorkedOut (now (m .entry)) (now (w .exit)) (nodesOf (now (m .entry))) ⌝ }
+{
+    let n = fields::nodes(m);
+    for i in 0..n {
+        work_out(m, ys, w, i);
+    }
+}
+
+// The set of node i among the first n. Where operands go deeper than `depth`, all nodes are worked out in order: so each once a leaf.
 fn node_among(m: &&[u8], ys: &&[u8], w: &mut [u8], n: usize, i: usize, depth: usize) -> u8
     requires { ⌜ (i < 2 ^ 32) × (n ≤ nodesOf (now (now m))) × Known (now (now m)) (now (now ys)) (now w) ⌝ }
     ensures { λ r. ⌜ (r ≡ among (now (now (m .entry))) (now (now (ys .entry))) n i) × Known (now (now (m .entry))) (now (now (ys .entry))) (now (w .exit)) ⌝ }
@@ -286,7 +492,7 @@ fn node_among(m: &&[u8], ys: &&[u8], w: &mut [u8], n: usize, i: usize, depth: us
     }
     let known = raw::byte(w, i);
     if known != 0 {
-        return known - 8;
+        return set_in(known);
     }
     let op = fields::op_of(*m, i);
     if op <= 4 {
@@ -296,22 +502,20 @@ fn node_among(m: &&[u8], ys: &&[u8], w: &mut [u8], n: usize, i: usize, depth: us
         }
         return set;
     }
-    if depth == 0 {
-        for k in 0..i {
-            node_among(m, ys, w, k + 1, k, 1);
-        }
-    }
-    let deeper = if depth == 0 { 0 } else { depth - 1 };
     let left = fields::left_of(*m, i);
     let right = fields::right_of(*m, i);
-    if op <= 7 {
-        let l = node_among(m, ys, w, i, left, deeper);
-        let r = node_among(m, ys, w, i, right, deeper);
-        let set = pairs(op, l, operand(op, r));
+    if 7 < op {
+        let set = equality(*m, *ys, op, left, right);
         raw::put(w, i, 8 + set);
         return set;
     }
-    let set = equality(*m, *ys, op, left, right);
+    if depth == 0 {
+        all(*m, *ys, w);
+        return set_in(raw::byte(w, i));
+    }
+    let l = node_among(m, ys, w, i, left, depth - 1);
+    let r = node_among(m, ys, w, i, right, depth - 1);
+    let set = pairs(op, l, operand(op, r));
     raw::put(w, i, 8 + set);
     set
 }
@@ -323,7 +527,7 @@ pub fn node(m: &[u8], ys: &[u8], w: &mut [u8], i: usize) -> u8
 {
     let known = raw::byte(w, i);
     if known != 0 {
-        return known - 8;
+        return set_in(known);
     }
     let n = fields::nodes(m);
     node_among(&m, &ys, w, n, i, DEPTH)

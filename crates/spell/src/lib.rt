@@ -157,7 +157,7 @@ pub fn same_spelling(m: &[u8], t: &[u8], a: Leaf, b: Leaf) -> bool
 }
 
 // n, m or y.
-fn letter_of(v: u8) -> u8
+pub fn letter_of(v: u8) -> u8
     ensures { λ r. ⌜ r ≡ letter v ⌝ }
 {
     match v {

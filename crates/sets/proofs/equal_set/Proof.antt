@@ -1,44 +1,52 @@
--- `sets::equal_set` meets its contract: either where a leaf is free, else by pairs.
-use Rattle.sets.proofs.Laws.{free-either, both-three}
+-- `sets::equal_set` meets its contract: by what the first leaf is.
 use native.Mathlib.Omega.{arith}
+use Rattle.sets.proofs.Equal.{set-free}
 use borrow.Author.Needs.{needs}
 use Rattle.sets.proofs.equal_set.Statement.{statement}
 use Rattle.sets.proofs.equal_set.Tie as tie
 use Rattle.sets.proofs.equal_set.Reads as reads
 use Rattle.sets.proofs.equal_set.Lts as lts
-use Rattle.sets.proofs.equal_pairs.Reads as equal-pairs-reads
-use Rattle.sets.proofs.is_free.Reads as is-free-reads
-use Rattle.sets.proofs.leaf_set.Reads as leaf-set-reads
+use Rattle.sets.proofs.other_set.Reads as other-set-reads
+use Rattle.sets.proofs.side_of.Reads as side-of-reads
+use Rattle.sets.proofs.three_set.Reads as three-set-reads
 
-is-free-requires : tie.Need-is-free-requires
-is-free-requires c κs = search needs
+side-of-requires : tie.Need-side-of-requires
+side-of-requires c κs = search needs
 
-is-free-requires-2 : tie.Need-is-free-requires-2
-is-free-requires-2 c κs = search needs
+enum-told : tie.Need-enum-told
+enum-told c = search needs
+
+enum-known-a : tie.Need-enum-known-a
+enum-known-a c = search needs
+
+three-set-requires : tie.Need-three-set-requires
+three-set-requires c κs = (c .before .before .before .before .before .before .pre .1, (rw (c .before .a .given .1) at (c .before .before .before .side-of .ensures)) .0, (rw (c .before .a .given .1) at (c .before .before .before .side-of .ensures)) .1, (rw (c .before .a .given .1) at (c .before .before .before .side-of .ensures)) .2)
+
+enum-told-2 : tie.Need-enum-told-2
+enum-told-2 c = search needs
+
+other-set-requires : tie.Need-other-set-requires
+other-set-requires c κs = (c .before .before .before .before .before .pre .0, c .before .before .before .before .before .pre .1, (rw (c .enum-told2 .given .1) at (c .before .before .side-of .ensures)) .0, (rw (c .enum-told2 .given .1) at (c .before .before .side-of .ensures)) .1, (rw (c .enum-told2 .given .1) at (c .before .before .side-of .ensures)) .2)
 
 returns : tie.Need-returns
-returns c = (free-either (c .before .before .before .before .before .args .m .now) (c .before .before .before .before .before .args .ys .now) (c .before .before .before .before .before .args .i) (c .before .before .before .before .before .args .j) (c .before .before .is-free .ensures) (c .before .is-free2 .ensures) (c .if1 .taken), omega arith)
-
-leaf-set-requires : tie.Need-leaf-set-requires
-leaf-set-requires c κs = search needs
-
-leaf-set-requires-2 : tie.Need-leaf-set-requires-2
-leaf-set-requires-2 c κs = search needs
-
-equal-pairs-requires : tie.Need-equal-pairs-requires
-equal-pairs-requires c κs = search needs
+returns c = (set-free (c .before .before .before .before .before .args .m .now) (c .before .before .before .before .before .args .ys .now) (c .before .before .before .before .before .args .i) (c .before .before .before .before .before .args .j) (rw (c .enum-told .given .1) at (c .before .before .side-of .ensures)), omega arith)
 
 returns-2 : tie.Need-returns-2
-returns-2 c = (both-three (c .before .before .before .before .before .before .before .before .args .m .now) (c .before .before .before .before .before .before .before .before .args .ys .now) (c .before .before .before .before .before .before .before .before .args .i) (c .before .before .before .before .before .before .before .before .args .j) (c .before .before .before .before .before .is-free .ensures) (c .before .before .before .before .is-free2 .ensures) (c .before .before .before .if1 .left) (c .before .before .leaf-set .ensures) (c .before .leaf-set2 .ensures) (c .equal-pairs .ensures .0), c .equal-pairs .ensures .1)
+returns-2 c = search needs
+
+returns-3 : tie.Need-returns-3
+returns-3 c = search needs
 
 pub equal-set-spec : {M : Type 1} → statement M
 equal-set-spec =
     tie.close
     (tie.spec
-    is-free-requires
-    is-free-requires-2
+    side-of-requires
+    enum-told
+    enum-known-a
+    three-set-requires
+    enum-told-2
+    other-set-requires
     returns
-    leaf-set-requires
-    leaf-set-requires-2
-    equal-pairs-requires
-    returns-2)
+    returns-2
+    returns-3)

@@ -1,4 +1,5 @@
 -- `sets::node` meets its contract: what is kept is the set itself, and all nodes are the first of them.
+use mathlib.Core.Path.{_∙_}
 use Rattle.sets.proofs.Nodes.{known-any, all-nodes}
 use borrow.Author.Needs.{needs}
 use Rattle.sets.proofs.node.Statement.{statement}
@@ -8,18 +9,19 @@ use Rattle.sets.proofs.node.Lts as lts
 use Rattle.fields.proofs.nodes.Reads as nodes-reads
 use Rattle.raw.proofs.byte.Reads as byte-reads
 use Rattle.sets.proofs.node_among.Reads as node-among-reads
+use Rattle.sets.proofs.set_in.Reads as set-in-reads
 
 byte-requires : tie.Need-byte-requires
 byte-requires c κs = search needs
 
-sub-result : tie.Need-sub-result
-sub-result c = known-any (c .before .before .before .before .before .before .args .t1 .now) (c .before .before .before .before .before .before .args .t2 .now) (c .before .before .before .before .before .before .pre .1) (c .before .before .before .before .before .before .args .i) (c .before .byte .ensures) (c .if1 .taken) .0
+set-in-requires : tie.Need-set-in-requires
+set-in-requires c κs = search needs
 
 same-length : tie.Need-same-length
 same-length c = search needs
 
 returns : tie.Need-returns
-returns c = (known-any (c .before .before .before .before .before .before .args .t1 .now) (c .before .before .before .before .before .before .args .t2 .now) (c .before .before .before .before .before .before .pre .1) (c .before .before .before .before .before .before .args .i) (c .before .byte .ensures) (c .if1 .taken) .1, c .before .before .before .before .before .before .pre .1)
+returns c = (c .set-in .ensures ∙ known-any (c .before .before .before .before .before .before .before .args .t1 .now) (c .before .before .before .before .before .before .before .args .t2 .now) (c .before .before .before .before .before .before .before .pre .1) (c .before .before .before .before .before .before .before .args .i) (c .before .before .byte .ensures) (c .before .if1 .taken), c .before .before .before .before .before .before .before .pre .1)
 
 nodes-requires : tie.Need-nodes-requires
 nodes-requires c κs = search needs
@@ -38,7 +40,7 @@ node-spec =
     tie.close
     (tie.spec
     byte-requires
-    sub-result
+    set-in-requires
     same-length
     returns
     nodes-requires
