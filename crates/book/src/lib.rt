@@ -64,9 +64,9 @@ fn chain_fault(m: &[u8]) -> Outcome
     end_fault(m)
 }
 
-// 3 at record i of section k, if it is malformed.
+// 3 at record i of section k, another than the symbols', if it is malformed.
 fn record_at(m: &[u8], k: usize, i: usize) -> Outcome
-    requires { ⌜ (k < 16) × (i < 65536) ⌝ }
+    requires { ⌜ (k < 16) × (k ≡ 1 → ⊥) × (i < 65536) ⌝ }
     ensures { λ r. ⌜ r ≡ recordAt (now (m .entry)) k i ⌝ }
 {
     let bad = !records::record_ok(m, k, i);

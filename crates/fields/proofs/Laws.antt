@@ -1,12 +1,13 @@
--- A record takes at most 8 bytes, by a test over the table of widths. Assumes nothing.
-use Prim.Native.Nat.{ℕ, zero, suc, _<_}
+-- A record takes at most 8 bytes, by a test over the table of widths; a part is no longer than asked for. Assumes nothing.
+use Prim.Native.Nat.{ℕ, zero, suc, _<_, _≤_}
 use mathlib.Core.List.{List, [], _∷_}
 use mathlib.Core.Path.{_≡_, refl}
 use mathlib.Core.Bool.{Bool, true, false, _&&_, false≢true}
 use native.Mathlib.Omega.{arith}
 use lib.Dec.{ltb}
-use lib.ListN.{getD}
+use lib.ListN.{getD, length, drop, length-take}
 use borrow.Author.Tests.{ltb-true}
+use Rattle.meaning.specs.Base.{part}
 use Rattle.meaning.specs.Book.{width}
 
 -- each number of a list is below b
@@ -25,3 +26,7 @@ small-at b (x ∷ l) h e i = by (ltb x b) refl e (small-at b l h) i
 
 pub width-small : (k : ℕ) → width k < 9
 width-small k = small-at 9 (0 ∷ 8 ∷ 6 ∷ 6 ∷ 6 ∷ 8 ∷ 8 ∷ 2 ∷ 1 ∷ []) (omega arith) refl k
+
+pub part-small : (m : List ℕ) (at n : ℕ) → length (part m at n) ≤ n
+unfolding part
+part-small m at n = omega (arith, length-take n (drop at m))

@@ -92,10 +92,6 @@ use Rattle.fields.proofs.default_symbol_from.Kinds as default-symbol-fr
 use Rattle.fields.proofs.default_symbol_from.Reads as default-symbol-from-reads
 use Rattle.fields.proofs.member_symbol_from.Kinds as member-symbol-from-kinds
 use Rattle.fields.proofs.member_symbol_from.Reads as member-symbol-from-reads
-use Rattle.fields.proofs.name_length_from.Kinds as name-length-from-kinds
-use Rattle.fields.proofs.name_length_from.Reads as name-length-from-reads
-use Rattle.fields.proofs.name_offset_from.Kinds as name-offset-from-kinds
-use Rattle.fields.proofs.name_offset_from.Reads as name-offset-from-reads
 use Rattle.fields.proofs.name_from.Kinds as name-from-kinds
 use Rattle.fields.proofs.name_from.Reads as name-from-reads
 use Rattle.fields.proofs.spelled_name.Kinds as spelled-name-kinds
@@ -236,14 +232,9 @@ default-symbol-from-once κs a x y s t p q = p .0 ∙ sym (q .0)
 pub member-symbol-from-once : Once 1 member-symbol-from-kinds.ps member-symbol-from-kinds.r member-symbol-from-reads.Post
 member-symbol-from-once κs a x y s t p q = p .0 ∙ sym (q .0)
 
-pub name-length-from-once : Once 1 name-length-from-kinds.ps name-length-from-kinds.r name-length-from-reads.Post
-name-length-from-once κs a x y s t p q = p ∙ sym q
-
-pub name-offset-from-once : Once 1 name-offset-from-kinds.ps name-offset-from-kinds.r name-offset-from-reads.Post
-name-offset-from-once κs a x y s t p q = p .0 ∙ sym (q .0)
 
 pub name-from-once : OnceIn 1 name-from-kinds.ps name-from-kinds.r name-from-reads.Post (λ κs x s. now x)
-name-from-once κs a x y s t p q = p ∙ sym q
+name-from-once κs a x y s t p q = p .0 ∙ sym (q .0)
 
 pub spelled-name-once : OnceIn 1 spelled-name-kinds.ps spelled-name-kinds.r spelled-name-reads.Post (λ κs x s. now x)
 spelled-name-once κs a x y s t p q = p ∙ sym q

@@ -4,6 +4,7 @@
 // overflow: every number that a book holds is below 2^16.
 ghost use mathlib.Core.Path.{_≡_};
 ghost use Prim.Native.Nat.{_<_, _^_};
+ghost use lib.ListN.{length};
 ghost use Rattle.meaning.specs.Book.{start as startOf, count as countOf, width as widthOf, byteIn, halfIn};
 ghost use Rattle.meaning.specs.Book.{total as totalOf, modulesOf, textStart, nameStart, spelledName, threeType, isLeaf};
 ghost use Rattle.meaning.specs.Book.{symbols as symbolsOf, nodes as nodesOf, defaults as defaultsOf, selects as selectsOf, ranges as rangesOf, choices as choicesOf, members as membersOf, texts as textsOf};
@@ -145,7 +146,7 @@ pub fn name_offset(m: &[u8], i: usize) -> usize
 }
 
 // How long a symbol's name is, where the symbols' start is at hand.
-pub fn name_length_from(m: &[u8], symbols: usize, i: usize) -> u8
+fn name_length_from(m: &[u8], symbols: usize, i: usize) -> u8
     requires { ⌜ (symbols ≡ startOf (now m) 1) × (symbols < 65536) × (i < 2 ^ 32) ⌝ }
     ensures { λ r. ⌜ r ≡ nameLength (now (m .entry)) i ⌝ }
 {
@@ -153,7 +154,7 @@ pub fn name_length_from(m: &[u8], symbols: usize, i: usize) -> u8
 }
 
 // Where a symbol's name stands in the texts, where the symbols' start is at hand.
-pub fn name_offset_from(m: &[u8], symbols: usize, i: usize) -> usize
+fn name_offset_from(m: &[u8], symbols: usize, i: usize) -> usize
     requires { ⌜ (symbols ≡ startOf (now m) 1) × (symbols < 65536) × (i < 2 ^ 32) ⌝ }
     ensures { λ r. ⌜ (r ≡ nameOffset (now (m .entry)) i) × (r < 65536) ⌝ }
 {
@@ -403,7 +404,7 @@ pub fn spelled_name(m: &[u8], s: usize) -> &[u8]
 // The same, where the symbols' start and the texts' are at hand.
 pub fn name_from(m: &[u8], symbols: usize, texts: usize, s: usize) -> &[u8]
     requires { ⌜ (symbols ≡ startOf (now m) 1) × (symbols < 65536) × (texts ≡ textStart (now m)) × (texts < 65536) × (s < 2 ^ 32) ⌝ }
-    ensures { λ r. ⌜ now r ≡ spelledName (now (m .entry)) s ⌝ }
+    ensures { λ r. ⌜ (now r ≡ spelledName (now (m .entry)) s) × (length (now r) < 256) ⌝ }
 {
     let n = raw::wide(name_length_from(m, symbols, s));
     raw::part(m, texts + name_offset_from(m, symbols, s), n)

@@ -1,67 +1,49 @@
--- Keys of parts of the book, links from each name of a block to the one before it of its link, and what a walk along them shows. Assumes nothing.
+-- Names that are alike, links from each name of a block to the one before it of its link, what a walk along them shows, and the rooms of a block. Assumes nothing.
 use mathlib.Core.Path.{_≡_, refl, sym, _∙_, ap}
 use mathlib.Core.Bool.{Bool, true, false, _&&_, not, true≢false}
-use mathlib.Core.List.{List}
+use mathlib.Core.List.{List, [], _∷_}
 use mathlib.Core.Logic.{⊎-elim}
 use Prim.Native.Nat.{ℕ, zero, suc, _+_, _-_, _*_, _/_, _≤_, _<_}
 use native.Mathlib.Nat.{eq-or-lt-of-le, le-of-suc-le-suc}
 use native.Mathlib.Omega.{arith}
 use native.Mathlib.Numerals.{add-one}
 use lib.Dec.{eqb, leb, ltb}
-use lib.ListN.{length, getD, set, drop, replicate, getD-replicate, length-take, length-drop}
-use lib.Seq.{getD-set-same, getD-set-other, getD-take, getD-drop}
-use borrow.Author.Tests.{eqb-true, eqb-false, ltb-true, ltb-false}
+use lib.ListN.{length, getD, set, replicate, getD-replicate, List·getD-eq-default}
+use lib.Seq.{getD-set-same, getD-set-other}
+use borrow.Author.Tests.{eq-eqb, eqb-true, eqb-false, ltb-true, ltb-false}
 use borrow.Author.Count.{below-more}
-use Rattle.meaning.specs.Base.{pick, half, part, sameText}
-use Rattle.meaning.specs.Book.{nodes, typeOf, promptOf, dependOf, spelledName, nameOk, otherName, newName, symbolOk, recordOk}
-use Rattle.meaning.proofs.Below.{all-every}
+use Rattle.meaning.specs.declared.Outcome.the-variants.{Fault}
+use Rattle.meaning.specs.Base.{pick, sameText, when}
+use Rattle.meaning.specs.Book.{nodes, typeOf, promptOf, dependOf, spelledName, nameOk, otherName, newName, symbolOk, recordOk, recordAt}
+use Rattle.meaning.proofs.Below.{all-every, all-stop}
 use Rattle.meaning.proofs.Tests.{same-text}
-use Rattle.names.specs.Keys.{triple, keyOf, nameKey, slotOf, tagOf, linkOf, spanned, Fit, Widens, lastWith, linkAt, Linked, Headed, Tagged, Fits}
+use Rattle.names.specs.Keys.{keyOf, nameKey, slotOf, tagOf, linkOf, spanned, Fit, Widens, lastWith, linkAt, Linked, Headed, Tagged, Fits, Different, Walk}
 
--- KEYS. A part is no longer than asked for, and its key is that of the book's own bytes
-pub part-small : (m : List ℕ) (at n : ℕ) → length (part m at n) ≤ n
-unfolding part
-part-small m at n = omega (arith, length-take n (drop at m))
+-- an empty text reads 0 everywhere
+pub none-at : (s : List ℕ) (i : ℕ) → length s ≡ 0 → getD s i 0 ≡ 0
+none-at s i e = List·getD-eq-default s 0 (omega arith)
 
-module _ (m : List ℕ) (at n : ℕ) where
-  byte-in : (i : ℕ) → i < n → getD (part m at n) i 0 ≡ getD m (at + i) 0
-  unfolding part
-  byte-in i l = getD-take n (drop at m) i 0 l ∙ getD-drop at m i 0
+-- NAMES. A text is the same as itself, so two that are not the same are not equal
+same-self : (a : List ℕ) → sameText a a ≡ true
+unfolding sameText
+same-self [] = refl
+same-self (x ∷ a) = rw (eq-eqb x x refl, same-self a)
 
-  triple-in : (i : ℕ) → i + 2 < n → triple (part m at n) i ≡ triple m (at + i)
-  unfolding triple half
-  triple-in i l =
-      let a : at + (i + 1) ≡ at + i + 1 = omega arith in
-      let b : at + (i + 2) ≡ at + i + 2 = omega arith in
-      rw (byte-in i (omega arith), byte-in (i + 1) (omega arith), byte-in (i + 2) l, a, b)
+pub texts-differ : (a b : List ℕ) {q : Bool} → q ≡ sameText a b → q ≡ false → a ≡ b → ⊥
+texts-differ a b eq f e = true≢false (sym (same-self a) ∙ ap (sameText a) e ∙ sym eq ∙ f)
 
-  whole : at + n ≤ length m → length (part m at n) ≡ n
-  unfolding part
-  whole h = omega (arith, length-take n (drop at m), length-drop at m)
-
-  pub key-in : 3 ≤ n → at + n ≤ length m → triple m at * 1640531527 + triple m (at + (n - 3)) * 1625958390 ≡ keyOf (part m at n)
-  unfolding keyOf
-  key-in l h = let b : at + 0 ≡ at = omega arith in rw (whole h, triple-in 0 (omega arith), triple-in (n - 3) (omega arith), b)
-
--- NAMES that are alike have one key
-unlike : (a b : List ℕ) → (linkOf (keyOf b) ≡ linkOf (keyOf a) → ⊥) → sameText a b ≡ false
-unlike a b n = by (sameText a b) refl
+-- a name is new where every earlier one is another, and not where one is the same
+pub name-new : (m : List ℕ) (s : ℕ) → ((e : ℕ) → e < s → spelledName m e ≡ spelledName m s → ⊥) → newName m s ≡ true
+unfolding newName otherName
+name-new m s all = all-every (otherName m s) s (λ e l. by e l (sameText (spelledName m e) (spelledName m s)) refl)
   where
-    by : (q : Bool) → sameText a b ≡ q → sameText a b ≡ false
-    by false e = e
-    by true e = absurd (n (ap (λ w. linkOf (keyOf w)) (sym (same-text a b e))))
+    by : (e : ℕ) → e < s → (q : Bool) → sameText (spelledName m e) (spelledName m s) ≡ q → not q ≡ true
+    by e l false h = refl
+    by e l true h = absurd (all e l (same-text _ _ h))
 
-pub other-key : (m : List ℕ) (s e : ℕ) → (nameKey m s ≡ nameKey m e → ⊥) → otherName m s e ≡ true
-unfolding otherName
-other-key m s e n = by (sameText (spelledName m e) (spelledName m s)) refl
-  where
-    by : (q : Bool) → sameText (spelledName m e) (spelledName m s) ≡ q → not q ≡ true
-    by false h = refl
-    by true h = absurd (n (ap keyOf (sym (same-text _ _ h))))
-
-pub other-text : (m : List ℕ) (s e : ℕ) {w : List ℕ} → w ≡ spelledName m e → sameText w (spelledName m s) ≡ false → otherName m s e ≡ true
-unfolding otherName
-other-text m s e ew h = rw (← ew, h)
+pub name-old : (m : List ℕ) (s e : ℕ) → e < s → spelledName m e ≡ spelledName m s → newName m s ≡ false
+unfolding newName otherName
+name-old m s e l q = sym (all-stop (otherName m s) s e {h = false} l (rw (q, same-self (spelledName m s))) refl)
 
 -- LINKS: the last of the first k numbers at which f is b
 module _ (f : ℕ → ℕ) (b : ℕ) where
@@ -92,108 +74,169 @@ module _ (f : ℕ → ℕ) (b : ℕ) where
       step true u v g = omega arith
       step false u v g = ⊎-elim (λ y. eqb-false _ _ u (ap f (sym y) ∙ e)) (λ y. g v y e) (eq-or-lt-of-le (le-of-suc-le-suc h))
 
--- A WALK along the links for the name w: where it stands, none from there on is w
-module _ (m : List ℕ) (base : ℕ) (w : List ℕ) where
-  abbrev pub At : ℕ → ℕ → Type 0
-  At k c = (c ≤ k) × ((j : ℕ) → c ≤ j → j < k → sameText w (spelledName m (base + j)) ≡ false) × ((j : ℕ) → c ≡ suc j → linkAt m base j ≡ linkOf (keyOf w))
+-- A WALK along the links for the name w: from where it stands it goes down, and passes no name that is w
+module _ (m : List ℕ) (base : ℕ) (nexts w : List ℕ) where
+  -- it starts at the last of the first k names that has w's link; all after that one are others
+  module _ (factor k : ℕ) {c : ℕ} (e : c ≡ lastWith (linkAt factor m base) (linkOf (keyOf factor w)) k) where
+    pub start-le : c ≤ k
+    start-le = omega (arith, e, last-le (linkAt factor m base) (linkOf (keyOf factor w)) k)
 
-  pub started : (k : ℕ) {c : ℕ} → c ≡ lastWith (linkAt m base) (linkOf (keyOf w)) k → At k c
-  started k {c} e = (
-    omega (arith, e, last-le (linkAt m base) (linkOf (keyOf w)) k),
-    λ j l h. unlike w (spelledName m (base + j)) (last-above (linkAt m base) (linkOf (keyOf w)) k j (omega (arith, e)) h),
-    λ j q. last-at (linkAt m base) (linkOf (keyOf w)) k j (sym e ∙ q),
-  )
+    pub walk-from : Linked factor m base nexts k → Walk m base nexts w c
+    walk-from linked = (
+      factor,
+      λ j l. linked j (omega (arith, start-le)),
+      λ j q. last-at (linkAt factor m base) (linkOf (keyOf factor w)) k j (sym e ∙ q),
+    )
 
-  module _ (nexts : List ℕ) (k c : ℕ) {v : ℕ} (pos : 0 < c) (at : At k c) (linked : Linked m base nexts k) (ev : v ≡ getD nexts (c - 1) 0) where
-    pub less : v < c
-    less = omega (arith, ev, linked (c - 1) (omega (arith, at .0)), last-le (linkAt m base) (linkAt m base (c - 1)) (c - 1))
+    pub none-after : (j : ℕ) → c ≤ j → j < k → w ≡ spelledName m (base + j) → ⊥
+    none-after j l h q =
+        last-above (linkAt factor m base) (linkOf (keyOf factor w)) k j (omega (arith, e)) h (ap (λ v. linkOf (keyOf factor v)) (sym q))
 
-    pub turned : {h : Bool} → h ≡ sameText w (spelledName m (base + (c - 1))) → h ≡ false → At k v
-    turned eh e = (omega (arith, a .0, at .0), λ j l n. above j l n (ltb j (c - 1)) refl, a .2)
+    pub none-of : ((j : ℕ) → j < c → w ≡ spelledName m (base + j) → ⊥) → (j : ℕ) → j < k → w ≡ spelledName m (base + j) → ⊥
+    none-of below j l = by (ltb j c) refl
       where
-        q : c ≡ suc (c - 1)
-        q = omega arith
+        by : (q : Bool) → ltb j c ≡ q → w ≡ spelledName m (base + j) → ⊥
+        by true x = below j (ltb-true _ _ x)
+        by false x = none-after j (ltb-false _ _ x) l
 
-        u : v ≡ lastWith (linkAt m base) (linkOf (keyOf w)) (c - 1)
-        u = ev ∙ linked (c - 1) (omega (arith, at .0)) ∙ ap (λ b. lastWith (linkAt m base) b (c - 1)) (at .2 (c - 1) q)
+  -- one step on
+  module _ (c : ℕ) {v : ℕ} (pos : 0 < c) (at : Walk m base nexts w c) (ev : v ≡ getD nexts (c - 1) 0) where
+    next : v ≡ lastWith (linkAt (at .0) m base) (linkOf (keyOf (at .0) w)) (c - 1)
+    next = ev ∙ at .1 (c - 1) (omega arith) ∙ ap (λ b. lastWith (linkAt (at .0) m base) b (c - 1)) (at .2 (c - 1) (omega arith))
 
-        a : At (c - 1) v
-        a = started (c - 1) u
+    pub walk-less : v < c
+    walk-less = omega (arith, start-le (at .0) (c - 1) next)
 
-        above : (j : ℕ) → v ≤ j → j < k → (p : Bool) → ltb j (c - 1) ≡ p → sameText w (spelledName m (base + j)) ≡ false
-        above j l n true x = a .1 j l (ltb-true _ _ x)
-        above j l n false x = ⊎-elim (λ y. rw (← y) (sym eh ∙ e)) (λ y. at .1 j (omega (arith, y)) n) (eq-or-lt-of-le {n = c - 1} {m = j} (ltb-false _ _ x))
+    pub walk-on : Walk m base nexts w v
+    walk-on = walk-from (at .0) (c - 1) next (λ j l. at .1 j (omega arith))
 
--- THE ROOMS of a block: before the first turn, and after that of its name k, whose key is x
-module _ (m : List ℕ) (base : ℕ) where
-  pub no-heads : Headed m base (replicate 128 0) 0
-  unfolding lastWith
-  no-heads b l = getD-replicate 128 b 0 0 l
-
-  pub no-spans : Fits (replicate 256 240)
-  no-spans b l = rw (getD-replicate {A = ℕ} 256 b 240 0 l) (omega arith)
-
-  module _ (k : ℕ) {x : ℕ} (ex : x ≡ nameKey m (base + k)) where
-    pub headed-more : (heads : List ℕ) {h : ℕ} → h ≡ linkOf x → h < length heads → Headed m base heads k → Headed m base (set heads h (k + 1)) (k + 1)
-    unfolding lastWith
-    headed-more heads {h} e l all b n = rw (add-one k) (step (eqb (linkAt m base k) b) refl)
+    pub walk-passed : (n : ℕ) → (w ≡ spelledName m (base + (c - 1)) → ⊥) → ((j : ℕ) → c ≤ j → j < n → w ≡ spelledName m (base + j) → ⊥)
+        → (j : ℕ) → v ≤ j → j < n → w ≡ spelledName m (base + j) → ⊥
+    walk-passed n here above j l h = by (ltb j (c - 1)) refl
       where
-        eh : h ≡ linkAt m base k
-        eh = e ∙ ap linkOf ex
-
-        step : (q : Bool) → eqb (linkAt m base k) b ≡ q → getD (set heads h (suc k)) b 0 ≡ pick q (suc k) (lastWith (linkAt m base) b k)
-        step true g = let u : b ≡ h = sym (eh ∙ eqb-true _ _ g) in rw u (getD-set-same heads h (suc k) 0 l)
-        step false g = getD-set-other heads h b (suc k) 0 (λ u. eqb-false _ _ g (sym (u ∙ eh))) ∙ all b n
-
-    pub linked-more :
-        (heads nexts : List ℕ) {h v : ℕ} → h ≡ linkOf x → h < 128 → v ≡ getD heads h 0 → k < length nexts → Headed m base heads k → Linked m base nexts k
-        → Linked m base (set nexts k v) (k + 1)
-    linked-more heads nexts {h} {v} e lh ev l headed all =
-        below-more (λ j. getD (set nexts k v) j 0 ≡ lastWith (linkAt m base) (linkAt m base j) j) k
-        (λ j n. getD-set-other nexts k j v 0 (λ u. absurd (let z : j ≡ k = u in omega arith)) ∙ all j n)
-        (getD-set-same nexts k v 0 l ∙ ev ∙ headed h lh ∙ ap (λ b. lastWith (linkAt m base) b k) (e ∙ ap linkOf ex))
-
-    pub fits-more : (spans : List ℕ) (r : ℕ) {h : ℕ} → h < length spans → Fit r → Fits spans → Fits (set spans h r)
-    fits-more spans r {h} l f all b n = by (eqb b h) refl
-      where
-        by : (q : Bool) → eqb b h ≡ q → Fit (getD (set spans h r) b 0)
-        by true g = rw (eqb-true b h g, getD-set-same spans h r 0 l) f
-        by false g = rw (getD-set-other spans h b r 0 (λ u. eqb-false _ _ g u)) (all b n)
-
-    pub tagged-more :
-        (spans : List ℕ) (r : ℕ) {h g : ℕ} → h ≡ slotOf x → g ≡ tagOf x → h < length spans → Widens (getD spans h 0) g r → Tagged m base spans k
-        → Tagged m base (set spans h r) (k + 1)
-    tagged-more spans r {h} {g} eh eg l wide all =
-        below-more (λ j. spanned (getD (set spans h r) (slotOf (nameKey m (base + j))) 0) (tagOf (nameKey m (base + j))) ≡ true) k
-        (λ j n. by j n (eqb (slotOf (nameKey m (base + j))) h) refl)
-        (rw (← ex, ← eh, ← eg, getD-set-same spans h r 0 l) (wide .1))
-      where
-        by : (j : ℕ) → j < k → (q : Bool) → eqb (slotOf (nameKey m (base + j))) h ≡ q
-            → spanned (getD (set spans h r) (slotOf (nameKey m (base + j))) 0) (tagOf (nameKey m (base + j))) ≡ true
-        by j n true z =
-            let u : slotOf (nameKey m (base + j)) ≡ h = eqb-true _ _ z in
-            rw (u, getD-set-same spans h r 0 l) (wide .2 (tagOf (nameKey m (base + j))) (omega arith) (rw u at (all j n)))
-        by j n false z = rw (getD-set-other spans h (slotOf (nameKey m (base + j))) r 0 (λ u. eqb-false _ _ z u)) (all j n)
-
-  -- so a name whose tag its span does not have is none of theirs
-  pub untagged : (spans : List ℕ) (n e : ℕ) {x h g : ℕ} {q : Bool} → Tagged m base spans n → x ≡ nameKey m e → h ≡ slotOf x → g ≡ tagOf x
-      → q ≡ spanned (getD spans h 0) g → q ≡ false → (j : ℕ) → j < n → nameKey m (base + j) ≡ nameKey m e → ⊥
-  untagged spans n e {x} ax ex eh eg eq f j l z =
-      let t : spanned (getD spans (slotOf x) 0) (tagOf x) ≡ true = rw (z, ← ex) at (ax j l) in
-      true≢false (sym t ∙ rw (eh, eg, f) at (sym eq))
+        by : (q : Bool) → ltb j (c - 1) ≡ q → w ≡ spelledName m (base + j) → ⊥
+        by true x = none-after (at .0) (c - 1) next j l (ltb-true _ _ x)
+        by false x = ⊎-elim (λ (y : c - 1 ≡ j). rw (← y) here) (λ y. above j (omega (arith, y)) h) (eq-or-lt-of-le {n = c - 1} {m = j} (ltb-false _ _ x))
 
 pub link-is : (x : ℕ) {h : ℕ} → h ≡ slotOf x → h / 2 ≡ linkOf x
 link-is x e = rw e
 
--- where a walk for e's name w begins
-pub headed-at : (m : List ℕ) (base e : ℕ) (heads : List ℕ) (n : ℕ) {w : List ℕ} {h : ℕ} → Headed m base heads n → h ≡ slotOf (nameKey m e) → w ≡ spelledName m e
-    → getD heads (h / 2) 0 ≡ lastWith (linkAt m base) (linkOf (keyOf w)) n
-headed-at m base e heads n {w} {h} all eh ew = all (h / 2) (omega (arith, eh)) ∙ rw (ew, link-is (nameKey m e) eh)
+-- THE ROOMS of a block: before the first turn
+module _ (factor : ℕ) (m : List ℕ) (base : ℕ) where
+  pub no-heads : Headed factor m base (replicate 128 0) 0
+  unfolding lastWith
+  no-heads b l = getD-replicate 128 b 0 0 l
 
--- every earlier name is another: so the name is new
-pub all-new : (m : List ℕ) (s : ℕ) → ((e : ℕ) → e < s → otherName m s e ≡ true) → newName m s ≡ true
-unfolding newName
-all-new m s all = all-every (otherName m s) s all
+  -- after that of its name k, whose key is x
+  module _ (k : ℕ) {x : ℕ} (ex : x ≡ nameKey factor m (base + k)) where
+    pub headed-more : (heads : List ℕ) {h : ℕ} → h ≡ linkOf x → h < length heads → Headed factor m base heads k → Headed factor m base (set heads h (k + 1)) (k + 1)
+    unfolding lastWith
+    headed-more heads {h} e l all b n = rw (add-one k) (step (eqb (linkAt factor m base k) b) refl)
+      where
+        eh : h ≡ linkAt factor m base k
+        eh = e ∙ ap linkOf ex
+
+        step : (q : Bool) → eqb (linkAt factor m base k) b ≡ q → getD (set heads h (suc k)) b 0 ≡ pick q (suc k) (lastWith (linkAt factor m base) b k)
+        step true g = let u : b ≡ h = sym (eh ∙ eqb-true _ _ g) in rw u (getD-set-same heads h (suc k) 0 l)
+        step false g = getD-set-other heads h b (suc k) 0 (λ u. eqb-false _ _ g (sym (u ∙ eh))) ∙ all b n
+
+    pub linked-more :
+        (heads nexts : List ℕ) {h v : ℕ} → h ≡ linkOf x → h < 128 → v ≡ getD heads h 0 → k < length nexts → Headed factor m base heads k → Linked factor m base nexts k
+        → Linked factor m base (set nexts k v) (k + 1)
+    linked-more heads nexts {h} {v} e lh ev l headed all =
+        below-more (λ j. getD (set nexts k v) j 0 ≡ lastWith (linkAt factor m base) (linkAt factor m base j) j) k
+        (λ j n. getD-set-other nexts k j v 0 (λ u. absurd (let z : j ≡ k = u in omega arith)) ∙ all j n)
+        (getD-set-same nexts k v 0 l ∙ ev ∙ headed h lh ∙ ap (λ b. lastWith (linkAt factor m base) b k) (e ∙ ap linkOf ex))
+
+    pub tagged-more :
+        (spans : List ℕ) (r : ℕ) {h g : ℕ} → h ≡ slotOf x → g ≡ tagOf x → h < length spans → Widens (getD spans h 0) g r → Tagged factor m base spans k
+        → Tagged factor m base (set spans h r) (k + 1)
+    tagged-more spans r {h} {g} eh eg l wide all =
+        below-more (λ j. spanned (getD (set spans h r) (slotOf (nameKey factor m (base + j))) 0) (tagOf (nameKey factor m (base + j))) ≡ true) k
+        (λ j n. by j n (eqb (slotOf (nameKey factor m (base + j))) h) refl)
+        (rw (← ex, ← eh, ← eg, getD-set-same spans h r 0 l) (wide .1))
+      where
+        by : (j : ℕ) → j < k → (q : Bool) → eqb (slotOf (nameKey factor m (base + j))) h ≡ q
+            → spanned (getD (set spans h r) (slotOf (nameKey factor m (base + j))) 0) (tagOf (nameKey factor m (base + j))) ≡ true
+        by j n true z =
+            let u : slotOf (nameKey factor m (base + j)) ≡ h = eqb-true _ _ z in
+            rw (u, getD-set-same spans h r 0 l) (wide .2 (tagOf (nameKey factor m (base + j))) (omega arith) (rw u at (all j n)))
+        by j n false z = rw (getD-set-other spans h (slotOf (nameKey factor m (base + j))) r 0 (λ u. eqb-false _ _ z u)) (all j n)
+
+  -- so a name whose tag its span does not have is none of theirs
+  pub untagged : (spans : List ℕ) (n e : ℕ) {x h g : ℕ} {q : Bool} → Tagged factor m base spans n → x ≡ nameKey factor m e → h ≡ slotOf x → g ≡ tagOf x
+      → q ≡ spanned (getD spans h 0) g → q ≡ false → (j : ℕ) → j < n → spelledName m e ≡ spelledName m (base + j) → ⊥
+  untagged spans n e {x} ax ex eh eg eq f j l z =
+      let u : nameKey factor m (base + j) ≡ x = ap (keyOf factor) (sym z) ∙ sym ex in
+      let t : spanned (getD spans (slotOf x) 0) (tagOf x) ≡ true = rw u at (ax j l) in
+      true≢false (sym t ∙ rw (eh, eg, f) at (sym eq))
+
+  -- where a walk for the name w starts, whose key is x
+  pub headed-at : (heads : List ℕ) (k : ℕ) (w : List ℕ) {x h v : ℕ} → Headed factor m base heads k → x ≡ keyOf factor w → h ≡ slotOf x → v ≡ getD heads (h / 2) 0
+      → v ≡ lastWith (linkAt factor m base) (linkOf (keyOf factor w)) k
+  headed-at heads k w {x} {h} all ex eh ev = ev ∙ all (h / 2) (omega (arith, eh)) ∙ ap (λ b. lastWith (linkAt factor m base) b k) (link-is x eh ∙ ap linkOf ex)
+
+pub no-spans : Fits (replicate 256 240)
+no-spans b l = rw (getD-replicate {A = ℕ} 256 b 240 0 l) (omega arith)
+
+pub fits-more : (spans : List ℕ) (r : ℕ) {h : ℕ} → h < length spans → Fit r → Fits spans → Fits (set spans h r)
+fits-more spans r {h} l f all b n = by (eqb b h) refl
+  where
+    by : (q : Bool) → eqb b h ≡ q → Fit (getD (set spans h r) b 0)
+    by true g = rw (eqb-true b h g, getD-set-same spans h r 0 l) f
+    by false g = rw (getD-set-other spans h b r 0 (λ u. eqb-false _ _ g u)) (all b n)
+
+-- DIFFERENT NAMES: one more, none of those before it
+module _ (m : List ℕ) (base : ℕ) where
+  pub different-more : (k : ℕ) {w : List ℕ} → w ≡ spelledName m (base + k) → Different m base k → ((j : ℕ) → j < k → w ≡ spelledName m (base + j) → ⊥)
+      → Different m base (k + 1)
+  different-more k ew all none i j l h e =
+      ⊎-elim
+      (λ (y : j ≡ k). none i (omega arith) (ew ∙ ap (λ a. spelledName m (base + a)) (sym y) ∙ sym e))
+      (λ y. all i j l y e)
+      (eq-or-lt-of-le (le-of-suc-le-suc (rw (add-one k) at h)))
+
+  -- a walk for w that stopped at r, or at 200 with none met, passed none before r that is w
+  pub none-before : (factor k r : ℕ) (w : List ℕ) {v : ℕ} → v ≡ lastWith (linkAt factor m base) (linkOf (keyOf factor w)) k → Different m base k → r ≤ 200
+      → (r < 200 → (r < v) × (w ≡ spelledName m (base + r))) → (r ≡ 200 → (j : ℕ) → j < v → w ≡ spelledName m (base + j) → ⊥)
+      → (j : ℕ) → j < r → j < k → w ≡ spelledName m (base + j) → ⊥
+  none-before factor k r w start all l found none j h n e =
+      ⊎-elim
+      (λ (y : r ≡ 200). none-of m base [] w factor k start (none y) j n e)
+      (λ y. all j r h (omega (arith, found y .0, start-le m base [] w factor k start)) (sym e ∙ found y .1))
+      (eq-or-lt-of-le l)
+
+  -- f is the first of the first k that a name before e is, or k
+  abbrev pub Others : ℕ → ℕ → Type 0
+  Others f e = (d : ℕ) → d < e → (j : ℕ) → j < f → spelledName m d ≡ spelledName m (base + j) → ⊥
+
+  abbrev pub First : ℕ → ℕ → ℕ → Type 0
+  First k f e = (f ≤ k) × Others f e × (f < k → newName m (base + f) ≡ false)
+
+  pub first-more : (k f e g : ℕ) {w : List ℕ} → First k f e → w ≡ spelledName m e → e < base → g ≤ f → ((j : ℕ) → j < g → w ≡ spelledName m (base + j) → ⊥)
+      → (g < f → w ≡ spelledName m (base + g)) → First k g (e + 1)
+  first-more k f e g so ew l h none at = (
+    omega (arith, so .0),
+    below-more (λ d. (j : ℕ) → j < g → spelledName m d ≡ spelledName m (base + j) → ⊥) e (λ d n j b. so .1 d n j (omega arith)) (λ j b q. none j b (ew ∙ q)),
+    λ n. ⊎-elim
+        (λ (y : g ≡ f). rw y (so .2 (omega arith)))
+        (λ y. name-old m (base + g) e (omega arith) (sym ew ∙ at y))
+        (eq-or-lt-of-le h),
+  )
+
+  -- so the names before it are new
+  pub block-new : (k r s : ℕ) → r ≤ k → Different m base k → Others r base → base ≤ s → s < base + r → newName m s ≡ true
+  block-new k r s h all others a b = name-new m s (λ e l. by e l (ltb e base) refl)
+    where
+      es : base + (s - base) ≡ s
+      es = omega arith
+
+      by : (e : ℕ) → e < s → (q : Bool) → ltb e base ≡ q → spelledName m e ≡ spelledName m s → ⊥
+      by e l true x z = others e (ltb-true _ _ x) (s - base) (omega arith) (rw es z)
+      by e l false x z =
+          let u : base ≤ e = ltb-false _ _ x in
+          let ee : base + (e - base) ≡ e = omega arith in
+          all (e - base) (s - base) (omega arith) (omega arith) (rw (ee, es) z)
 
 without : (a b c d : Bool) → (a && b && c && d) ≡ (a && b && true && c && d)
 without true true c d = refl
@@ -206,3 +249,12 @@ pub fits-is : (m : List ℕ) (s : ℕ) {q : Bool} → newName m s ≡ true
     → q ≡ (leb (typeOf m s) 4 && nameOk m s && ltb (promptOf m s) (nodes m) && ltb (dependOf m s) (nodes m)) → q ≡ recordOk m 1 s
 unfolding recordOk symbolOk
 fits-is m s e eq = eq ∙ without (leb (typeOf m s) 4) (nameOk m s) (ltb (promptOf m s) (nodes m)) (ltb (dependOf m s) (nodes m)) ∙ rw e
+
+-- one with a name that is not new is bad
+pub old-at : (m : List ℕ) (s : ℕ) → newName m s ≡ false → recordAt m 1 s ≡ Fault 3 1 s
+unfolding recordAt when recordOk symbolOk
+old-at m s e = rw e (by (leb (typeOf m s) 4 && nameOk m s) (ltb (promptOf m s) (nodes m)) (ltb (dependOf m s) (nodes m)))
+  where
+    by : (a b c : Bool) → when (not (a && false && b && c)) (Fault 3 1 s) ≡ Fault 3 1 s
+    by true b c = refl
+    by false b c = refl

@@ -3,28 +3,41 @@ use Prim.Native.Nat.{ℕ, zero, suc, _+_, _-_, _*_, _/_, _%_, min, _<_, _≤_}
 use mathlib.Core.Path.{_≡_}
 use mathlib.Core.Bool.{Bool, true}
 use mathlib.Core.List.{List}
-use lib.Dec.{eqb, leb}
+use lib.Dec.{eqb, leb, ltb}
 use lib.ListN.{length, getD}
-use Rattle.meaning.specs.Base.{pick, half}
+use Rattle.meaning.specs.Base.{pick, fold, word}
 use Rattle.meaning.specs.Book.{spelledName}
 
--- three bytes as a number, the lowest first
-unfoldable pub triple : List ℕ → ℕ → ℕ
-triple s i = half s i + 65536 * getD s (i + 2) 0
+-- a key so far, and eight bytes more
+unfoldable pub mix : ℕ → ℕ → ℕ → ℕ → ℕ
+mix factor sum low high = (sum * factor + low * 1779033703 + high) % 4294967296
 
--- a name's key: a number from its first and its last three bytes
-unfoldable pub keyOf : List ℕ → ℕ
-keyOf w = triple w 0 * 1640531527 + triple w (length w - 3) * 1625958390
+-- the first, the middle and the last byte as a number: all there are of up to three
+unfoldable pub few : List ℕ → ℕ
+few w = getD w 0 0 + 256 * getD w (length w / 2) 0 + 65536 * getD w (length w - 1) 0
 
-abbrev pub nameKey : List ℕ → ℕ → ℕ
-nameKey m s = keyOf (spelledName m s)
+-- a name's length and its whole eights, mixed
+unfoldable pub eights : ℕ → List ℕ → ℕ → ℕ
+eights factor w = fold (λ k sum. mix factor sum (word w (8 * k)) (word w (8 * k + 4))) (length w)
 
--- a key's span, its tag there, and its link, which four spans share
+-- a name's key, made of every byte of it: the last eight are mixed in behind the whole eights
+unfoldable pub keyOf : ℕ → List ℕ → ℕ
+keyOf factor w =
+    let n = length w in
+    pick (ltb n 4) (mix factor n (few w) 0)
+    (pick (ltb n 8) (mix factor n (word w 0) (word w (n - 4)))
+    (mix factor (eights factor w (n / 8)) (word w (n - 8)) (word w (n - 4))))
+    * 1640532007
+
+abbrev pub nameKey : ℕ → List ℕ → ℕ → ℕ
+nameKey factor m s = keyOf factor (spelledName m s)
+
+-- a key's span, its tag there, and its link, which two spans share
 abbrev pub slotOf : ℕ → ℕ
-slotOf x = x / 16777216 % 256
+slotOf x = x / 1073741824 % 256
 
 abbrev pub tagOf : ℕ → ℕ
-tagOf x = min (x / 4294967296 % 16) 14
+tagOf x = min (x / 67108864 % 16) 14
 
 abbrev pub linkOf : ℕ → ℕ
 linkOf x = slotOf x / 2
@@ -45,10 +58,10 @@ unfoldable pub lastWith : (ℕ → ℕ) → ℕ → ℕ → ℕ
 lastWith f b zero = zero
 lastWith f b (suc k) = pick (eqb (f k) b) (suc k) (lastWith f b k)
 
-module _ (m : List ℕ) (base : ℕ) where
+module _ (factor : ℕ) (m : List ℕ) (base : ℕ) where
   -- the link of the block's name i
   abbrev pub linkAt : ℕ → ℕ
-  linkAt i = linkOf (nameKey m (base + i))
+  linkAt i = linkOf (nameKey factor m (base + i))
 
   -- each of the first k names of the block is linked to the one before it of its link
   abbrev pub Linked : List ℕ → ℕ → Type 0
@@ -60,8 +73,18 @@ module _ (m : List ℕ) (base : ℕ) where
 
   -- each of them has its tag in its span
   abbrev pub Tagged : List ℕ → ℕ → Type 0
-  Tagged spans k = (j : ℕ) → j < k → spanned (getD spans (slotOf (nameKey m (base + j))) 0) (tagOf (nameKey m (base + j))) ≡ true
+  Tagged spans k =
+      (j : ℕ) → j < k → spanned (getD spans (slotOf (nameKey factor m (base + j))) 0) (tagOf (nameKey factor m (base + j))) ≡ true
 
 -- every span fits
 abbrev pub Fits : List ℕ → Type 0
 Fits spans = (b : ℕ) → b < 256 → Fit (getD spans b 0)
+
+module _ (m : List ℕ) (base : ℕ) where
+  -- the first k names of the block are all different
+  abbrev pub Different : ℕ → Type 0
+  Different k = (i j : ℕ) → i < j → j < k → spelledName m (base + i) ≡ spelledName m (base + j) → ⊥
+
+  -- a walk for the name w can start at c: it is 0, or one past a name of w's link, and the names below it are linked, by whatever factor
+  abbrev pub Walk : List ℕ → List ℕ → ℕ → Type 0
+  Walk nexts w c = (factor : ℕ) × Linked factor m base nexts c × ((j : ℕ) → c ≡ suc j → linkAt factor m base j ≡ linkOf (keyOf factor w))

@@ -1,89 +1,97 @@
-// The symbol records in order, each name against all before it, by blocks of 152.
+// The symbol records in order, each name against all before it, by blocks of 200.
 //
-// Total over any bytes. The names of a block are linked by a key; then one pass over all names up to the block's end looks each up:
-// names are compared only where a span of tags has the key's own.
+// Total over any bytes. The names of a block are linked by a key, each looked up among those before it; then each name before the block
+// is looked up. Names are compared only where their links are the same. A block in which many are is linked again, by other keys.
 ghost use mathlib.Core.Path.{_≡_};
 ghost use mathlib.Core.Bool.{true, false};
-ghost use Prim.Native.Nat.{ℕ, _+_, _*_, _<_, _≤_, _^_};
+ghost use Prim.Native.Nat.{ℕ, _+_, _<_, _≤_};
 ghost use lib.ListN.{length};
 ghost use Rattle.meaning.specs.declared.Outcome.the-variants.{Clean};
-ghost use Rattle.meaning.specs.Base.{part as partOf, sameText, firstBelow};
-ghost use Rattle.meaning.specs.Book.{start as startOf, textStart, spelledName, otherName, newName, recordAt, sectionFault};
-ghost use Rattle.names.specs.Keys.{triple as tripleOf, keyOf, nameKey, slotOf, tagOf, linkOf, spanned, Fit, Widens, lastWith, linkAt, Linked, Headed};
+ghost use Rattle.meaning.specs.Base.{word, firstBelow};
+ghost use Rattle.meaning.specs.Book.{start as startOf, textStart, spelledName, newName, recordAt, sectionFault};
+ghost use Rattle.names.specs.Keys.{mix, few as fewOf, keyOf, slotOf, tagOf, spanned, Fit, Widens, Linked, Headed, Tagged, Different, Walk};
 use meaning::Outcome;
 
-// Three bytes as a number, the lowest first.
-fn triple(s: &[u8], i: usize) -> usize
-    requires { ⌜ i < 2 ^ 32 ⌝ }
-    ensures { λ r. ⌜ (r ≡ tripleOf (now (s .entry)) i) × (r < 16777216) ⌝ }
+// How many names a block has at most. No name of a block has this number, so it is also the answer where none is found.
+const BLOCK: usize = 200;
+
+// The answer where more names had to be compared at once than a try allows.
+const CROWDED: usize = 201;
+
+// How many a try allows, but for the last one, which allows any number.
+const MOST: usize = 10;
+
+const LAST_TRY: usize = 7;
+
+// What a key is mixed with, what it is kept below, and its last factor, which spreads it.
+const LOW_FACTOR: usize = 1779033703;
+
+const MODULUS: usize = 4294967296;
+
+const LAST_FACTOR: usize = 1640532007;
+
+// Four bytes as a number.
+fn four(s: &[u8], i: usize) -> usize
+    requires { ⌜ i + 4 ≤ length (now s) ⌝ }
+    ensures { λ r. ⌜ (r ≡ word (now (s .entry)) i) × (r < 4294967296) ⌝ }
 {
-    raw::half(s, i) + 65536 * raw::wide(raw::byte(s, i + 2))
+    raw::wide(s[i])
+        + 256 * raw::wide(s[i + 1])
+        + 65536 * raw::wide(s[i + 2])
+        + 16777216 * raw::wide(s[i + 3])
 }
 
-// Two triples as a key.
-fn mixed(first: usize, last: usize) -> usize
-    requires { ⌜ (first < 16777216) × (last < 16777216) ⌝ }
-    ensures { λ r. ⌜ r ≡ first * 1640531527 + last * 1625958390 ⌝ }
+// A key so far, and eight bytes more.
+fn mixed(sum: usize, factor: usize, low: usize, high: usize) -> usize
+    requires { ⌜ (sum < 4294967296) × (factor < 2147483648) × (low < 4294967296) × (high < 4294967296) ⌝ }
+    ensures { λ r. ⌜ (r ≡ mix factor sum low high) × (r < 4294967296) ⌝ }
 {
-    first * 1640531527 + last * 1625958390
+    (sum * factor + low * LOW_FACTOR + high) % MODULUS
+}
+
+// Up to three bytes as a number.
+fn few(s: &[u8]) -> usize
+    ensures { λ r. ⌜ (r ≡ fewOf (now (s .entry))) × (r < 16777216) ⌝ }
+{
+    let n = s.len();
+    if n == 0 {
+        return 0;
+    }
+    raw::wide(s[0]) + 256 * raw::wide(s[n / 2]) + 65536 * raw::wide(s[n - 1])
 }
 
 // A name's key.
-fn key(name: &[u8]) -> usize
-    requires { ⌜ length (now name) < 256 ⌝ }
-    ensures { λ r. ⌜ r ≡ keyOf (now (name .entry)) ⌝ }
+fn key(name: &[u8], factor: usize) -> usize
+    requires { ⌜ (length (now name) < 256) × (factor < 2147483648) ⌝ }
+    ensures { λ r. ⌜ r ≡ keyOf factor (now (name .entry)) ⌝ }
 {
     let n = name.len();
-    if n < 3 {
-        return mixed(triple(name, 0), triple(name, 0));
+    if n < 4 {
+        return mixed(n, factor, few(name), 0) * LAST_FACTOR;
     }
-    mixed(triple(name, 0), triple(name, n - 3))
-}
-
-// The key of symbol s's name.
-fn name_key(m: &[u8], s: usize) -> usize
-    requires { ⌜ s < 2 ^ 32 ⌝ }
-    ensures { λ r. ⌜ r ≡ nameKey (now (m .entry)) s ⌝ }
-{
-    let n = raw::wide(fields::name_length(m, s));
-    key(raw::part(m, fields::name_start(m, s), n))
-}
-
-// The key of the n bytes from `at` on.
-fn key_at(m: &[u8], at: usize, n: usize) -> usize
-    requires { ⌜ (at < 131072) × (n < 256) ⌝ }
-    ensures { λ r. ⌜ r ≡ keyOf (partOf (now (m .entry)) at n) ⌝ }
-{
-    if n < 3 {
-        return key(raw::part(m, at, n));
+    if n < 8 {
+        return mixed(n, factor, four(name, 0), four(name, n - 4)) * LAST_FACTOR;
     }
-    if m.len() < at + n {
-        return key(raw::part(m, at, n));
+    let mut sum = n;
+    let words = n / 8;
+    for k in 0..words {
+        sum = mixed(sum, factor, four(name, 8 * k), four(name, 8 * k + 4));
     }
-    mixed(triple(m, at), triple(m, at + (n - 3)))
-}
-
-// The key of symbol s's name, where the symbols' start and the texts' are at hand.
-fn key_from(m: &[u8], symbols: usize, texts: usize, s: usize) -> usize
-    requires { ⌜ (symbols ≡ startOf (now m) 1) × (symbols < 65536) × (texts ≡ textStart (now m)) × (texts < 65536) × (s < 2 ^ 32) ⌝ }
-    ensures { λ r. ⌜ r ≡ nameKey (now (m .entry)) s ⌝ }
-{
-    let n = raw::wide(fields::name_length_from(m, symbols, s));
-    key_at(m, texts + fields::name_offset_from(m, symbols, s), n)
+    mixed(sum, factor, four(name, n - 8), four(name, n - 4)) * LAST_FACTOR
 }
 
 // A key's span.
 fn slot(x: usize) -> usize
     ensures { λ r. ⌜ (r ≡ slotOf x) × (r < 256) ⌝ }
 {
-    x / 16777216 % 256
+    x / 1073741824 % 256
 }
 
 // A key's tag in its span.
 fn tag(x: usize) -> u8
     ensures { λ r. ⌜ (r ≡ tagOf x) × (r < 15) ⌝ }
 {
-    let g = (x / 4294967296 % 16) as u8;
+    let g = (x / 67108864 % 16) as u8;
     if 14 < g { 14 } else { g }
 }
 
@@ -114,107 +122,157 @@ fn widened(span: u8, g: u8) -> u8
     span
 }
 
-// Whether a name of the block, from its name `after` on, is `name`; only those of its link are compared.
+// What the keys of try c are made with.
+fn factor_of(c: usize) -> usize
+    requires { ⌜ c < 8 ⌝ }
+    ensures { λ r. ⌜ r < 2147483648 ⌝ }
+{
+    1000000007 + 100000006 * c
+}
+
+// Which name of the block is `name`, of those on the walk that starts at `from`: BLOCK if none is, CROWDED if more than `most` had to be compared.
 fn seen(
     m: &[u8],
     symbols: usize,
     texts: usize,
     base: usize,
-    n: usize,
-    nexts: &[u8; 152],
+    nexts: &[u8; BLOCK],
     name: &[u8],
     from: usize,
-    after: usize,
-) -> bool
-    requires { ⌜ (symbols ≡ startOf (now m) 1) × (symbols < 65536) × (texts ≡ textStart (now m)) × (texts < 65536) × (base < 65536) × (n ≤ 152) × Linked (now m) base (now nexts) n × (from ≡ lastWith (linkAt (now m) base) (linkOf (keyOf (now name))) n) ⌝ }
-    ensures { λ r. ⌜ (r ≡ false → (j : ℕ) → after ≤ j → j < n → sameText (now (name .entry)) (spelledName (now (m .entry)) (base + j)) ≡ false) ⌝ }
+    most: usize,
+) -> usize
+    requires { ⌜ (symbols ≡ startOf (now m) 1) × (symbols < 65536) × (texts ≡ textStart (now m)) × (texts < 65536) × (base < 65536) × (from ≤ 200) × Walk (now m) base (now nexts) (now name) from ⌝ }
+    ensures { λ r. ⌜ (r < 200 → (r < from) × (now (name .entry) ≡ spelledName (now (m .entry)) (base + r))) × (r ≡ 200 → (j : ℕ) → j < from → now (name .entry) ≡ spelledName (now (m .entry)) (base + j) → ⊥) × (r ≤ 201) × (200 ≤ most → r ≤ 200) ⌝ }
 {
     let mut c = from;
-    while after < c {
+    let mut left = most;
+    while 0 < c {
+        if left == 0 {
+            return CROWDED;
+        }
         let j = c - 1;
         if raw::same(name, fields::name_from(m, symbols, texts, base + j)) {
-            return true;
+            return j;
         }
         c = raw::wide(nexts[j]);
+        left -= 1;
     }
-    false
+    BLOCK
 }
 
-// Whether a name of the block behind e is e's; none is where their spans do not have e's tag.
-fn known(
+// Which of the first k names of the block, all different, is the first that a name before the block is: k if none is.
+fn earlier(
     m: &[u8],
     symbols: usize,
     texts: usize,
     base: usize,
-    n: usize,
+    k: usize,
+    factor: usize,
     heads: &[u8; 128],
-    nexts: &[u8; 152],
-    e: usize,
-    slot: usize,
-    maybe: bool,
-) -> bool
-    requires { ⌜ (symbols ≡ startOf (now m) 1) × (symbols < 65536) × (texts ≡ textStart (now m)) × (texts < 65536) × (base < 65536) × (n ≤ 152) × (e < 131072) × Linked (now m) base (now nexts) n × Headed (now m) base (now heads) n × (slot ≡ slotOf (nameKey (now m) e)) × (maybe ≡ false → (j : ℕ) → j < n → nameKey (now m) (base + j) ≡ nameKey (now m) e → ⊥) ⌝ }
-    ensures { λ r. ⌜ (r ≡ false → (j : ℕ) → e < base + j → j < n → otherName (now (m .entry)) (base + j) e ≡ true) ⌝ }
+    tags: &[u8; 256],
+    nexts: &[u8; BLOCK],
+) -> usize
+    requires { ⌜ (symbols ≡ startOf (now m) 1) × (symbols < 65536) × (texts ≡ textStart (now m)) × (texts < 65536) × (base < 65536) × (k ≤ 200) × (factor < 2147483648) × Headed factor (now m) base (now heads) k × Linked factor (now m) base (now nexts) k × Tagged factor (now m) base (now tags) k × Different (now m) base k ⌝ }
+    ensures { λ r. ⌜ (r ≤ k) × ((e : ℕ) → e < base → (j : ℕ) → j < r → spelledName (now (m .entry)) e ≡ spelledName (now (m .entry)) (base + j) → ⊥) × (r < k → newName (now (m .entry)) (base + r) ≡ false) ⌝ }
 {
-    if !maybe {
-        return false;
-    }
-    let name = fields::name_from(m, symbols, texts, e);
-    let from = raw::wide(heads[slot / 2]);
-    if e < base {
-        return seen(m, symbols, texts, base, n, nexts, name, from, 0);
-    }
-    seen(m, symbols, texts, base, n, nexts, name, from, e - base + 1)
-}
-
-// Whether each of the n names from base on is new.
-fn fresh(m: &[u8], base: usize, n: usize) -> bool
-    requires { ⌜ (base < 65536) × (n ≤ 152) ⌝ }
-    ensures { λ r. ⌜ (r ≡ true → (s : ℕ) → base ≤ s → s < base + n → newName (now (m .entry)) s ≡ true) ⌝ }
-{
-    let mut heads = [0u8; 128];
-    let mut spans_of = [240u8; 256];
-    let mut nexts = [0u8; 152];
-    for k in 0..n {
-        let x = name_key(m, base + k);
+    let mut first = k;
+    for e in 0..base {
+        let name = fields::name_from(m, symbols, texts, e);
+        let x = key(name, factor);
         let h = slot(x);
-        let g = tag(x);
-        nexts[k] = heads[h / 2];
-        heads[h / 2] = (k + 1) as u8;
-        spans_of[h] = widened(spans_of[h], g);
-    }
-    let symbols = fields::start(m, 1);
-    let texts = fields::text_start(m);
-    let end = base + n;
-    for e in 0..end {
-        let x = key_from(m, symbols, texts, e);
-        let h = slot(x);
-        let maybe = spans(spans_of[h], tag(x));
-        if known(m, symbols, texts, base, n, &heads, &nexts, e, h, maybe) {
-            return false;
+        if spans(tags[h], tag(x)) {
+            let j = seen(
+                m,
+                symbols,
+                texts,
+                base,
+                nexts,
+                name,
+                raw::wide(heads[h / 2]),
+                BLOCK,
+            );
+            if j < first {
+                first = j;
+            }
         }
     }
-    true
+    first
 }
 
-// 3 at symbol s, if it is malformed; whether its name is known to be new.
-fn symbol_at(m: &[u8], s: usize, new: bool) -> Outcome
-    requires { ⌜ (s < 65536) × (new ≡ true → newName (now m) s ≡ true) ⌝ }
+// Which of the n names from base on is the first that is not new: n if all are, CROWDED if more than `most` names had to be compared at once.
+fn fresh(m: &[u8], base: usize, n: usize, factor: usize, most: usize) -> usize
+    requires { ⌜ (base < 65536) × (n ≤ 200) × (factor < 2147483648) ⌝ }
+    ensures { λ r. ⌜ (r ≤ n → ((s : ℕ) → base ≤ s → s < base + r → newName (now (m .entry)) s ≡ true) × (r < n → newName (now (m .entry)) (base + r) ≡ false)) × (200 ≤ most → r ≤ n) ⌝ }
+{
+    let symbols = fields::start(m, 1);
+    let texts = fields::text_start(m);
+    let mut heads = [0u8; 128];
+    let mut spans_of = [240u8; 256];
+    let mut nexts = [0u8; BLOCK];
+    let mut first = n;
+    let mut k: usize = 0;
+    while k < first {
+        let name = fields::name_from(m, symbols, texts, base + k);
+        let x = key(name, factor);
+        let h = slot(x);
+        let from = raw::wide(heads[h / 2]);
+        let j = seen(m, symbols, texts, base, &nexts, name, from, most);
+        if j == CROWDED {
+            return j;
+        }
+        if j < BLOCK {
+            first = k;
+        } else {
+            nexts[k] = heads[h / 2];
+            heads[h / 2] = (k + 1) as u8;
+            spans_of[h] = widened(spans_of[h], tag(x));
+            k += 1;
+        }
+    }
+    earlier(
+        m,
+        symbols,
+        texts,
+        base,
+        first,
+        factor,
+        &heads,
+        &spans_of,
+        &nexts,
+    )
+}
+
+// Which of the n names from base on is the first that is not new, n if all are.
+fn first_old(m: &[u8], base: usize, n: usize) -> usize
+    requires { ⌜ (base < 65536) × (n ≤ 200) ⌝ }
+    ensures { λ r. ⌜ (r ≤ n) × ((s : ℕ) → base ≤ s → s < base + r → newName (now (m .entry)) s ≡ true) × (r < n → newName (now (m .entry)) (base + r) ≡ false) ⌝ }
+{
+    let mut c: usize = 0;
+    loop {
+        let most = if c < LAST_TRY { MOST } else { BLOCK };
+        let r = fresh(m, base, n, factor_of(c), most);
+        if r <= n {
+            return r;
+        }
+        c += 1;
+    }
+}
+
+// 3 at symbol s, if it is malformed, where its name is new.
+fn symbol_at(m: &[u8], s: usize) -> Outcome
+    requires { ⌜ (s < 65536) × (newName (now m) s ≡ true) ⌝ }
     ensures { λ r. ⌜ r ≡ recordAt (now (m .entry)) 1 s ⌝ }
 {
-    if new {
-        return raw::fault_if(!records::symbol_fits(m, s), 3, 1, s);
-    }
-    raw::fault_if(!records::record_ok(m, 1, s), 3, 1, s)
+    raw::fault_if(!records::symbol_fits(m, s), 3, 1, s)
 }
 
-// 3: the first malformed symbol below end, where there is none below base, and the names from base on may be known to be new.
-fn block_fault(m: &[u8], base: usize, end: usize, new: bool) -> Outcome
-    requires { ⌜ (base ≤ end) × (end < 65536) × (firstBelow (recordAt (now m) 1) base ≡ Clean) × (new ≡ true → (s : ℕ) → base ≤ s → s < end → newName (now m) s ≡ true) ⌝ }
+// 3: the first malformed symbol below end, where there is none below base and the names from base on are new.
+fn block_fault(m: &[u8], base: usize, end: usize) -> Outcome
+    requires { ⌜ (base ≤ end) × (end < 65536) × (firstBelow (recordAt (now m) 1) base ≡ Clean) × ((s : ℕ) → base ≤ s → s < end → newName (now m) s ≡ true) ⌝ }
     ensures { λ r. ⌜ r ≡ firstBelow (recordAt (now (m .entry)) 1) end ⌝ }
 {
     for s in base..end {
-        let at = symbol_at(m, s, new);
+        let at = symbol_at(m, s);
         if let Outcome::Fault(_, _, _) = at {
             return at;
         }
@@ -225,9 +283,9 @@ fn block_fault(m: &[u8], base: usize, end: usize, new: bool) -> Outcome
 // Where the block from base on ends.
 fn end_of(base: usize, n: usize) -> usize
     requires { ⌜ (base < n) × (n < 65536) ⌝ }
-    ensures { λ r. ⌜ (base < r) × (r ≤ n) × (r ≤ base + 152) ⌝ }
+    ensures { λ r. ⌜ (base < r) × (r ≤ n) × (r ≤ base + 200) ⌝ }
 {
-    if n - base < 152 { n } else { base + 152 }
+    if n - base < BLOCK { n } else { base + BLOCK }
 }
 
 // 3: the first malformed symbol.
@@ -238,10 +296,13 @@ pub fn fault(m: &[u8]) -> Outcome
     let mut base: usize = 0;
     while base < n {
         let end = end_of(base, n);
-        let new = fresh(m, base, end - base);
-        let at = block_fault(m, base, end, new);
+        let old = base + first_old(m, base, end - base);
+        let at = block_fault(m, base, old);
         if let Outcome::Fault(_, _, _) = at {
             return at;
+        }
+        if old < end {
+            return Outcome::Fault(3, 1, old as u16);
         }
         base = end;
     }

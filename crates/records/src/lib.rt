@@ -3,10 +3,12 @@
 // Total over any bytes. Each test is document 01's, by its definition; a record's number is below 2^32.
 ghost use mathlib.Core.Path.{_≡_};
 ghost use Prim.Native.Nat.{_+_, _<_, _^_};
-ghost use mathlib.Core.Bool.{_&&_};
+ghost use mathlib.Core.Bool.{_&&_, not};
 ghost use lib.Dec.{leb, ltb};
+ghost use lib.ListN.{length, getD};
+ghost use Rattle.meaning.specs.Base.{allBelow};
 ghost use Rattle.meaning.specs.Book.{symbols as symbolsOf, nodes as nodesOf, typeOf, promptOf, dependOf, choiceKind, memberSymbol};
-ghost use Rattle.meaning.specs.Book.{isDigit, isNameByte, nameBytes, digitsAlone, otherName, newName, nameOk, symbolOk, leafFits, nodeFits};
+ghost use Rattle.meaning.specs.Book.{isDigit, isNameByte, nameOk, leafFits, nodeFits};
 ghost use Rattle.meaning.specs.Book.{nodeOk, defaultOk, selectOk, boundOk, rangeOk, memberDue, choiceOk, recordOk};
 
 // 0 to 9.
@@ -23,51 +25,18 @@ fn is_name_byte(b: u8) -> bool
     is_digit(b) | ((65 <= b) & (b <= 90)) | (b == 95)
 }
 
-// Whether each of the n bytes from `at` on may stand in a name.
-fn name_bytes(m: &[u8], at: usize, n: usize) -> bool
-    requires { ⌜ (at < 2 ^ 32) × (n < 2 ^ 32) ⌝ }
-    ensures { λ r. ⌜ r ≡ nameBytes (now (m .entry)) at n ⌝ }
+// Whether each byte of a name may stand in one, and not all of them are digits.
+fn spelled_well(name: &[u8]) -> bool
+    ensures { λ r. ⌜ r ≡ (allBelow (λ j. isNameByte (getD (now (name .entry)) j 0)) (length (now (name .entry))) && not (allBelow (λ j. isDigit (getD (now (name .entry)) j 0)) (length (now (name .entry))))) ⌝ }
 {
-    for j in 0..n {
-        if !is_name_byte(raw::byte(m, at + j)) {
-            return false;
-        }
+    let mut good = true;
+    let mut digits = true;
+    for j in 0..name.len() {
+        let b = name[j];
+        good = good & is_name_byte(b);
+        digits = digits & is_digit(b);
     }
-    true
-}
-
-// Whether each of the n bytes from `at` on is a digit.
-fn digits_alone(m: &[u8], at: usize, n: usize) -> bool
-    requires { ⌜ (at < 2 ^ 32) × (n < 2 ^ 32) ⌝ }
-    ensures { λ r. ⌜ r ≡ digitsAlone (now (m .entry)) at n ⌝ }
-{
-    for j in 0..n {
-        if !is_digit(raw::byte(m, at + j)) {
-            return false;
-        }
-    }
-    true
-}
-
-// Whether symbol e has another name than s.
-fn other_name(m: &[u8], s: usize, e: usize) -> bool
-    requires { ⌜ (s < 2 ^ 32) × (e < 2 ^ 32) ⌝ }
-    ensures { λ r. ⌜ r ≡ otherName (now (m .entry)) s e ⌝ }
-{
-    !raw::same(fields::spelled_name(m, e), fields::spelled_name(m, s))
-}
-
-// Whether no earlier symbol has the name of s.
-fn new_name(m: &[u8], s: usize) -> bool
-    requires { ⌜ s < 2 ^ 32 ⌝ }
-    ensures { λ r. ⌜ r ≡ newName (now (m .entry)) s ⌝ }
-{
-    for e in 0..s {
-        if !other_name(m, s, e) {
-            return false;
-        }
-    }
-    true
+    good & !digits
 }
 
 // Whether a symbol's name may stand, whatever the others' are.
@@ -76,26 +45,9 @@ fn name_ok(m: &[u8], s: usize) -> bool
     ensures { λ r. ⌜ r ≡ nameOk (now (m .entry)) s ⌝ }
 {
     let n = raw::wide(fields::name_length(m, s));
-    let at = fields::name_start(m, s);
+    let name = raw::part(m, fields::name_start(m, s), n);
     let end = fields::name_offset(m, s) + n;
-    (1 <= n)
-        & (n <= 64)
-        & (end <= fields::texts(m))
-        & name_bytes(m, at, n)
-        & !digits_alone(m, at, n)
-}
-
-// A symbol: its type, its name, its prompt and its dependency.
-fn symbol_ok(m: &[u8], s: usize) -> bool
-    requires { ⌜ s < 2 ^ 32 ⌝ }
-    ensures { λ r. ⌜ r ≡ symbolOk (now (m .entry)) s ⌝ }
-{
-    let nodes = fields::nodes(m);
-    (fields::type_of(m, s) <= 4)
-        & name_ok(m, s)
-        & new_name(m, s)
-        & (fields::prompt_of(m, s) < nodes)
-        & (fields::depend_of(m, s) < nodes)
+    (1 <= n) & (n <= 64) & (end <= fields::texts(m)) & (name.len() == n) & spelled_well(name)
 }
 
 // A symbol, whatever the names before it are.
@@ -239,13 +191,12 @@ pub fn member_fits(m: &[u8], c: usize, i: usize) -> bool
     (s < fields::symbols(m)) & (fields::type_of(m, s) <= fields::choice_kind(m, c))
 }
 
-// Record i of section k.
+// Record i of section k, which is another than the symbols'.
 pub fn record_ok(m: &[u8], k: usize, i: usize) -> bool
-    requires { ⌜ i < 2 ^ 32 ⌝ }
+    requires { ⌜ (k ≡ 1 → ⊥) × (i < 2 ^ 32) ⌝ }
     ensures { λ r. ⌜ r ≡ recordOk (now (m .entry)) k i ⌝ }
 {
     match k {
-        1 => symbol_ok(m, i),
         2 => node_ok(m, i),
         3 => default_ok(m, i),
         4 => select_ok(m, i),

@@ -1,4 +1,7 @@
 -- `fields::name_from` meets its contract: it is the part that the name's offset and length give.
+use Rattle.fields.proofs.Laws.{part-small}
+use Prim.Native.Nat.{_+_}
+use native.Mathlib.Omega.{arith}
 use mathlib.Core.Path.{_∙_}
 use borrow.Author.Needs.{needs}
 use Rattle.fields.proofs.name_from.Statement.{statement}
@@ -26,7 +29,12 @@ part-requires : tie.Need-part-requires
 part-requires c κs = search needs
 
 returns : tie.Need-returns
-returns c = c .part .ensures ∙ rw (c .before .before .before .before .before .pre .2, c .before .name-offset-from .ensures .0, c .before .before .wide .ensures .0, c .before .before .before .name-length-from .ensures)
+returns c =
+    let pre = c .before .before .before .before .before .pre in
+    let given = c .before .before .before .before .before .args in
+    let name-length-from = c .before .before .before .name-length-from in
+    let wide = c .before .before .wide in
+    (c .part .ensures ∙ rw (pre .2, c .before .name-offset-from .ensures .0, wide .ensures .0, name-length-from .ensures), rw (c .part .ensures) (omega (arith, wide .ensures .1, part-small (given .m .now) (given .texts + c .before .name-offset-from .result) (wide .result))))
 
 pub name-from-spec : {M : Type 1} → statement M
 name-from-spec =

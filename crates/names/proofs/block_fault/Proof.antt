@@ -15,16 +15,16 @@ use Rattle.names.proofs.block_fault.Lts as lts
 use Rattle.names.proofs.symbol_at.Reads as symbol-at-reads
 
 abbrev Inv-loop : tie.InvT-loop
-Inv-loop m base end new s₀ s = (base ≤ s) × (s ≤ end) × (firstBelow (recordAt m 1) s ≡ Clean)
+Inv-loop m base end s₀ s = (base ≤ s) × (s ≤ end) × (firstBelow (recordAt m 1) s ≡ Clean)
 
 abbrev μ-loop : tie.MeasureT-loop
-μ-loop m base end new s₀ s = end - s
+μ-loop m base end s₀ s = end - s
 
 loop-holds : tie.Need-loop-holds Inv-loop μ-loop
 loop-holds c = (omega arith, omega arith, c .before .pre .2)
 
 symbol-at-requires : tie.Need-symbol-at-requires Inv-loop μ-loop
-symbol-at-requires c κs = (omega arith, λ e. c .before .before .before .pre .3 e (c .before .loop .s) (c .before .loop .inv .0) (omega arith))
+symbol-at-requires c κs = (omega arith, c .before .before .before .pre .3 (c .before .loop .s) (c .before .loop .inv .0) (omega arith))
 
 enum-told : tie.Need-enum-told Inv-loop μ-loop
 enum-told c = search needs
