@@ -10,7 +10,7 @@ use Rattle.meaning.specs.Book.{spelledName}
 
 -- a key so far, and eight bytes more
 unfoldable pub mix : ℕ → ℕ → ℕ → ℕ → ℕ
-mix factor sum low high = (sum * factor + low * 1779033703 + high) % 4294967296
+mix factor sum low high = ((sum * factor + low) % 4294967296 * factor + high) % 4294967296
 
 -- the first, the middle and the last byte as a number: all there are of up to three
 unfoldable pub few : List ℕ → ℕ

@@ -23,9 +23,7 @@ const MOST: usize = 10;
 
 const LAST_TRY: usize = 7;
 
-// What a key is mixed with, what it is kept below, and its last factor, which spreads it.
-const LOW_FACTOR: usize = 1779033703;
-
+// What a key is kept below while it is made, and its last factor, which spreads it.
 const MODULUS: usize = 4294967296;
 
 const LAST_FACTOR: usize = 1640532007;
@@ -41,12 +39,12 @@ fn four(s: &[u8], i: usize) -> usize
         + 16777216 * raw::wide(s[i + 3])
 }
 
-// A key so far, and eight bytes more.
+// A key so far, and eight bytes more: each four of a name go in with a power of the factor of their own.
 fn mixed(sum: usize, factor: usize, low: usize, high: usize) -> usize
     requires { ⌜ (sum < 4294967296) × (factor < 2147483648) × (low < 4294967296) × (high < 4294967296) ⌝ }
     ensures { λ r. ⌜ (r ≡ mix factor sum low high) × (r < 4294967296) ⌝ }
 {
-    (sum * factor + low * LOW_FACTOR + high) % MODULUS
+    ((sum * factor + low) % MODULUS * factor + high) % MODULUS
 }
 
 // Up to three bytes as a number.
