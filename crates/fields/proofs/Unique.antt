@@ -232,7 +232,6 @@ default-symbol-from-once κs a x y s t p q = p .0 ∙ sym (q .0)
 pub member-symbol-from-once : Once 1 member-symbol-from-kinds.ps member-symbol-from-kinds.r member-symbol-from-reads.Post
 member-symbol-from-once κs a x y s t p q = p .0 ∙ sym (q .0)
 
-
 pub name-from-once : OnceIn 1 name-from-kinds.ps name-from-kinds.r name-from-reads.Post (λ κs x s. now x)
 name-from-once κs a x y s t p q = p .0 ∙ sym (q .0)
 

@@ -3,7 +3,7 @@ use mathlib.Core.Path.{_≡_, refl, sym, _∙_, ap}
 use mathlib.Core.Bool.{Bool, true, false, _&&_, not, true≢false}
 use mathlib.Core.List.{List, [], _∷_}
 use mathlib.Core.Logic.{⊎-elim}
-use Prim.Native.Nat.{ℕ, zero, suc, _+_, _-_, _*_, _/_, _≤_, _<_}
+use Prim.Native.Nat.{ℕ, zero, suc, _+_, _-_, _/_, _≤_, _<_}
 use native.Mathlib.Nat.{eq-or-lt-of-le, le-of-suc-le-suc}
 use native.Mathlib.Omega.{arith}
 use native.Mathlib.Numerals.{add-one}
@@ -88,7 +88,7 @@ module _ (m : List ℕ) (base : ℕ) (nexts w : List ℕ) where
       λ j q. last-at (linkAt factor m base) (linkOf (keyOf factor w)) k j (sym e ∙ q),
     )
 
-    pub none-after : (j : ℕ) → c ≤ j → j < k → w ≡ spelledName m (base + j) → ⊥
+    none-after : (j : ℕ) → c ≤ j → j < k → w ≡ spelledName m (base + j) → ⊥
     none-after j l h q =
         last-above (linkAt factor m base) (linkOf (keyOf factor w)) k j (omega (arith, e)) h (ap (λ v. linkOf (keyOf factor v)) (sym q))
 

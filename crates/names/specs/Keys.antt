@@ -20,7 +20,7 @@ few w = getD w 0 0 + 256 * getD w (length w / 2) 0 + 65536 * getD w (length w - 
 unfoldable pub eights : ℕ → List ℕ → ℕ → ℕ
 eights factor w = fold (λ k sum. mix factor sum (word w (8 * k)) (word w (8 * k + 4))) (length w)
 
--- a name's key, made of every byte of it: the last eight are mixed in behind the whole eights
+-- a name's key, made of every byte of it: the last eight are mixed in after the whole eights
 unfoldable pub keyOf : ℕ → List ℕ → ℕ
 keyOf factor w =
     let n = length w in

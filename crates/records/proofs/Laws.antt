@@ -1,14 +1,14 @@
 -- A name by its own bytes and by the book's, and where a choice's members begin, one choice on. Assumes nothing.
-use mathlib.Core.Path.{_≡_, refl, sym, _∙_, ap}
-use mathlib.Core.Bool.{Bool, true, false, _&&_, not, and-false}
+use mathlib.Core.Path.{_≡_, refl, _∙_, ap}
+use mathlib.Core.Bool.{Bool, true, false, _&&_, not}
 use mathlib.Core.List.{List}
-use Prim.Native.Nat.{ℕ, zero, suc, _+_, _-_, _<_, _≤_}
+use Prim.Native.Nat.{ℕ, zero, suc, _+_, _-_, _<_}
 use native.Mathlib.Omega.{arith}
 use native.Mathlib.Numerals.{add-one}
 use lib.Dec.{eqb}
 use lib.ListN.{length, getD, drop, List·getD-eq-default, length-take, length-drop}
 use lib.Seq.{getD-take, getD-drop}
-use borrow.Author.Tests.{eq-eqb, ne-eqb, eqb-true, eqb-false}
+use borrow.Author.Tests.{eqb-true, eqb-false}
 use Rattle.meaning.specs.Base.{part, allBelow}
 use Rattle.meaning.specs.Book.{isDigit, isNameByte, nameBytes, digitsAlone, memberDue, firstMember, memberCount}
 use Rattle.meaning.proofs.Below.{all-stop}
@@ -46,7 +46,12 @@ module _ (m : List ℕ) (at n : ℕ) where
       by : (b : Bool) → eqb (length w) n ≡ b → (b && q) ≡ (nameBytes m at n && not (digitsAlone m at n))
       by true e =
           let l : length w ≡ n = eqb-true _ _ e in
-          eq ∙ rw (l, all-alike (λ j. isNameByte (getD w j 0)) (λ j. isNameByte (getD m (at + j) 0)) n (λ j h. ap isNameByte (ap (λ v. getD v j 0) ew ∙ byte-in j h)), all-alike (λ j. isDigit (getD w j 0)) (λ j. isDigit (getD m (at + j) 0)) n (λ j h. ap isDigit (ap (λ v. getD v j 0) ew ∙ byte-in j h)))
+          let bytes : (j : ℕ) → j < n → getD w j 0 ≡ getD m (at + j) 0 = λ j h. ap (λ v. getD v j 0) ew ∙ byte-in j h in
+          eq ∙ rw (
+            l,
+            all-alike (λ j. isNameByte (getD w j 0)) (λ j. isNameByte (getD m (at + j) 0)) n (λ j h. ap isNameByte (bytes j h)),
+            all-alike (λ j. isDigit (getD w j 0)) (λ j. isDigit (getD m (at + j) 0)) n (λ j h. ap isDigit (bytes j h)),
+          )
       by false e = rw (← cut-short (λ z. eqb-false _ _ e (ap length ew ∙ z)))
 
 pub due-after : (m : List ℕ) (c : ℕ) {r : ℕ} → 0 < c → r ≡ firstMember m (c - 1) + memberCount m (c - 1) → r ≡ memberDue m c
