@@ -205,7 +205,7 @@ fn fresh(m: &[u8], base: usize, n: usize, factor: usize, most: usize) -> usize
     let symbols = fields::start(m, 1);
     let texts = fields::text_start(m);
     let mut heads = [0u8; 128];
-    let mut spans_of = [240u8; 256];
+    let mut tags = [240u8; 256];
     let mut nexts = [0u8; BLOCK];
     let mut first = n;
     let mut k: usize = 0;
@@ -223,21 +223,11 @@ fn fresh(m: &[u8], base: usize, n: usize, factor: usize, most: usize) -> usize
         } else {
             nexts[k] = heads[h / 2];
             heads[h / 2] = (k + 1) as u8;
-            spans_of[h] = widened(spans_of[h], tag(x));
+            tags[h] = widened(tags[h], tag(x));
             k += 1;
         }
     }
-    earlier(
-        m,
-        symbols,
-        texts,
-        base,
-        first,
-        factor,
-        &heads,
-        &spans_of,
-        &nexts,
-    )
+    earlier(m, symbols, texts, base, k, factor, &heads, &tags, &nexts)
 }
 
 // Which of the n names from base on is the first that is not new, n if all are.

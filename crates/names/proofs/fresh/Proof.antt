@@ -27,10 +27,10 @@ use Rattle.names.proofs.widened.Reads as widened-reads
 use Rattle.raw.proofs.wide.Reads as wide-reads
 
 abbrev Inv-loop : tie.InvT-loop
-Inv-loop m base n factor most symbols texts heads₀ spans-of₀ nexts₀ first₀ k₀ heads spans-of nexts first k = (k ≤ first) × (first ≤ n) × (length heads ≡ 128) × (length spans-of ≡ 256) × (length nexts ≡ 200) × Headed factor m base heads k × Linked factor m base nexts k × Fits spans-of × Tagged factor m base spans-of k × Different m base k × (first < n → newName m (base + first) ≡ false)
+Inv-loop m base n factor most symbols texts heads₀ tags₀ nexts₀ first₀ k₀ heads tags nexts first k = (k ≤ first) × (first ≤ n) × (length heads ≡ 128) × (length tags ≡ 256) × (length nexts ≡ 200) × Headed factor m base heads k × Linked factor m base nexts k × Fits tags × Tagged factor m base tags k × Different m base k × (first < n → newName m (base + first) ≡ false)
 
 abbrev μ-loop : tie.MeasureT-loop
-μ-loop m base n factor most symbols texts heads₀ spans-of₀ nexts₀ first₀ k₀ heads spans-of nexts first k = first - k
+μ-loop m base n factor most symbols texts heads₀ tags₀ nexts₀ first₀ k₀ heads tags nexts first k = first - k
 
 start-requires : tie.Need-start-requires Inv-loop μ-loop
 start-requires c κs = search needs
@@ -136,8 +136,8 @@ widened-requires c κs =
     let slot = c .before .before .before .before .before .before .slot in
     (c .tag .ensures .1, loop .inv .7 (slot .result) (slot .ensures .1))
 
-array-write-spans-of : tie.Need-array-write-spans-of Inv-loop μ-loop
-array-write-spans-of c =
+array-write-tags : tie.Need-array-write-tags Inv-loop μ-loop
+array-write-tags c =
     let slot = c .before .before .before .before .before .before .before .slot in
     omega (arith, slot .ensures .1)
 
@@ -173,8 +173,8 @@ loop-again-2 c =
       simp length-set (loop .inv .4),
       headed-more (given .factor) m base (loop .k) is-key (loop .heads) is-link (omega (arith, slot .ensures .1, loop .inv .2)) (loop .inv .5),
       linked-more (given .factor) m base (loop .k) is-key (loop .heads) (loop .nexts) is-link (omega (arith, slot .ensures .1)) refl (omega (arith, less, loop .inv .1, loop .inv .4, pre .1)) (loop .inv .5) (loop .inv .6),
-      fits-more (loop .spans-of) (c .widened .result) (omega (arith, slot .ensures .1, loop .inv .3)) (c .widened .ensures .0) (loop .inv .7),
-      tagged-more (given .factor) m base (loop .k) is-key (loop .spans-of) (c .widened .result) (slot .ensures .0) (c .before .tag .ensures .0) (omega (arith, slot .ensures .1, loop .inv .3)) (c .widened .ensures) (loop .inv .8),
+      fits-more (loop .tags) (c .widened .result) (omega (arith, slot .ensures .1, loop .inv .3)) (c .widened .ensures .0) (loop .inv .7),
+      tagged-more (given .factor) m base (loop .k) is-key (loop .tags) (c .widened .result) (slot .ensures .0) (c .before .tag .ensures .0) (omega (arith, slot .ensures .1, loop .inv .3)) (c .widened .ensures) (loop .inv .8),
       different-more m base (loop .k) (name-from .ensures .0) (loop .inv .9) (none-of m base (loop .nexts) (name-from .result .now) (given .factor) (loop .k) begins none),
       loop .inv .10,
     )
@@ -185,13 +185,22 @@ earlier-requires c κs =
     let start = c .before .before .before .before .before .before .start in
     let text-start = c .before .before .before .before .before .text-start in
     let loop = c .before .before .before .before .loop in
-    let f : loop .k ≡ loop .first = omega arith in (start .ensures .0, start .ensures .1, text-start .ensures .0, text-start .ensures .1, pre .0, omega arith, pre .2, rw f at (loop .inv .5), rw f at (loop .inv .6), rw f at (loop .inv .8), rw f at (loop .inv .9))
+    (start .ensures .0, start .ensures .1, text-start .ensures .0, text-start .ensures .1, pre .0, omega arith, pre .2, loop .inv .5, loop .inv .6, loop .inv .8, loop .inv .9)
 
 returns-2 : tie.Need-returns-2 Inv-loop μ-loop
 returns-2 c =
     let given = c .before .before .before .before .before .before .before .before .before .args in
     let loop = c .before .before .before .before .before .loop in
-    let f : loop .k ≡ loop .first = omega arith in (λ l. (λ s a b. block-new (given .m .now) (given .base) (loop .first) (c .earlier .result) s (c .earlier .ensures .0) (rw f at (loop .inv .9)) (c .earlier .ensures .1) a b, λ h. ⊎-elim (λ (q : c .earlier .result ≡ loop .first). rw q (loop .inv .10 (omega arith))) (λ q. c .earlier .ensures .2 q) (eq-or-lt-of-le (c .earlier .ensures .0))), λ l. omega (arith, c .earlier .ensures .0, loop .inv .1))
+    let f : loop .k ≡ loop .first = omega arith in (
+      λ l. (
+        λ s. block-new (given .m .now) (given .base) (loop .k) (c .earlier .result) s (c .earlier .ensures .0) (loop .inv .9) (c .earlier .ensures .1),
+        λ h. ⊎-elim
+            (λ (q : c .earlier .result ≡ loop .k). rw (q, f) (loop .inv .10 (omega arith)))
+            (λ q. c .earlier .ensures .2 q)
+            (eq-or-lt-of-le (c .earlier .ensures .0)),
+      ),
+      λ l. omega (arith, c .earlier .ensures .0, loop .inv .0, loop .inv .1),
+    )
 
 pub fresh-spec : {M : Type 1} → statement M
 fresh-spec =
@@ -220,7 +229,7 @@ fresh-spec =
     array-read-widened
     tag-requires
     widened-requires
-    array-write-spans-of
+    array-write-tags
     add-k
     loop-less-2
     loop-again-2
