@@ -3,12 +3,12 @@ use mathlib.Core.Path.{_≡_, refl, sym, _∙_, ap}
 use mathlib.Core.Bool.{Bool, true, false, _&&_, not, true≢false}
 use mathlib.Core.List.{List, [], _∷_}
 use mathlib.Core.Logic.{⊎-elim}
-use Prim.Native.Nat.{ℕ, zero, suc, _+_, _-_, _/_, _≤_, _<_}
+use Prim.Native.Nat.{ℕ, zero, suc, _+_, _-_, _/_, _%_, _≤_, _<_}
 use native.Mathlib.Nat.{eq-or-lt-of-le, le-of-suc-le-suc}
 use native.Mathlib.Omega.{arith}
 use native.Mathlib.Numerals.{add-one}
 use lib.Dec.{eqb, leb, ltb}
-use lib.ListN.{length, getD, set, replicate, getD-replicate, List·getD-eq-default}
+use lib.ListN.{length, getD, set, replicate, getD-replicate, length-set, List·getD-eq-default}
 use lib.Seq.{getD-set-same, getD-set-other}
 use borrow.Author.Tests.{eq-eqb, eqb-true, eqb-false, ltb-true, ltb-false}
 use borrow.Author.Count.{below-more}
@@ -17,7 +17,8 @@ use Rattle.meaning.specs.Base.{pick, sameText, when}
 use Rattle.meaning.specs.Book.{nodes, typeOf, promptOf, dependOf, spelledName, nameOk, otherName, newName, symbolOk, recordOk, recordAt}
 use Rattle.meaning.proofs.Below.{all-every, all-stop}
 use Rattle.meaning.proofs.Tests.{same-text}
-use Rattle.names.specs.Keys.{keyOf, nameKey, slotOf, tagOf, linkOf, spanned, Fit, Widens, lastWith, linkAt, Linked, Headed, Tagged, Fits, Different, Walk}
+use Rattle.names.specs.Keys.{keyOf, nameKey, linkOf, firstMark, secondMark, Marked, Adds, lastWith, linkAt, Linked, Headed, AllMarked, Different, Walk}
+use Rattle.names.proofs.Marks.{mark-stays, mark-new}
 
 -- an empty text reads 0 everywhere
 pub none-at : (s : List ℕ) (i : ℕ) → length s ≡ 0 → getD s i 0 ≡ 0
@@ -118,9 +119,6 @@ module _ (m : List ℕ) (base : ℕ) (nexts w : List ℕ) where
         by true x = none-after (at .0) (c - 1) next j l (ltb-true _ _ x)
         by false x = ⊎-elim (λ (y : c - 1 ≡ j). rw (← y) here) (λ y. above j (omega (arith, y)) h) (eq-or-lt-of-le {n = c - 1} {m = j} (ltb-false _ _ x))
 
-pub link-is : (x : ℕ) {h : ℕ} → h ≡ slotOf x → h / 2 ≡ linkOf x
-link-is x e = rw e
-
 -- THE ROOMS of a block: before the first turn
 module _ (factor : ℕ) (m : List ℕ) (base : ℕ) where
   pub no-heads : Headed factor m base (replicate 128 0) 0
@@ -148,43 +146,38 @@ module _ (factor : ℕ) (m : List ℕ) (base : ℕ) where
         (λ j n. getD-set-other nexts k j v 0 (λ u. absurd (let z : j ≡ k = u in omega arith)) ∙ all j n)
         (getD-set-same nexts k v 0 l ∙ ev ∙ headed h lh ∙ ap (λ b. lastWith (linkAt factor m base) b k) (e ∙ ap linkOf ex))
 
-    pub tagged-more :
-        (spans : List ℕ) (r : ℕ) {h g : ℕ} → h ≡ slotOf x → g ≡ tagOf x → h < length spans → Widens (getD spans h 0) g r → Tagged factor m base spans k
-        → Tagged factor m base (set spans h r) (k + 1)
-    tagged-more spans r {h} {g} eh eg l wide all =
-        below-more (λ j. spanned (getD (set spans h r) (slotOf (nameKey factor m (base + j))) 0) (tagOf (nameKey factor m (base + j))) ≡ true) k
-        (λ j n. by j n (eqb (slotOf (nameKey factor m (base + j))) h) refl)
-        (rw (← ex, ← eh, ← eg, getD-set-same spans h r 0 l) (wide .1))
+    pub marked-more :
+        (marks : List ℕ) (r s : ℕ) {f g : ℕ} → f ≡ firstMark x → g ≡ secondMark x → length marks ≡ 256 → Adds (getD marks (f / 8) 0) (f % 8) r
+        → Adds (getD (set marks (f / 8) r) (g / 8) 0) (g % 8) s → AllMarked factor m base marks k
+        → AllMarked factor m base (set (set marks (f / 8) r) (g / 8) s) (k + 1)
+    marked-more marks r s {f} {g} ef eg size one two all =
+        below-more (λ j. Marked both (firstMark (nameKey factor m (base + j))) × Marked both (secondMark (nameKey factor m (base + j)))) k
+        (λ j n. (stays _ (all j n .0), stays _ (all j n .1)))
+        (rw (← ex, ← ef, ← eg) (mark-stays (set marks (f / 8) r) (g / 8) (g % 8) s f in-two two (mark-new marks f r in-one one), mark-new (set marks (f / 8) r) g s in-two two))
       where
-        by : (j : ℕ) → j < k → (q : Bool) → eqb (slotOf (nameKey factor m (base + j))) h ≡ q
-            → spanned (getD (set spans h r) (slotOf (nameKey factor m (base + j))) 0) (tagOf (nameKey factor m (base + j))) ≡ true
-        by j n true z =
-            let u : slotOf (nameKey factor m (base + j)) ≡ h = eqb-true _ _ z in
-            rw (u, getD-set-same spans h r 0 l) (wide .2 (tagOf (nameKey factor m (base + j))) (omega arith) (rw u at (all j n)))
-        by j n false z = rw (getD-set-other spans h (slotOf (nameKey factor m (base + j))) r 0 (λ u. eqb-false _ _ z u)) (all j n)
+        both : List ℕ
+        both = set (set marks (f / 8) r) (g / 8) s
 
-  -- so a name whose tag its span does not have is none of theirs
-  pub untagged : (spans : List ℕ) (n e : ℕ) {x h g : ℕ} {q : Bool} → Tagged factor m base spans n → x ≡ nameKey factor m e → h ≡ slotOf x → g ≡ tagOf x
-      → q ≡ spanned (getD spans h 0) g → q ≡ false → (j : ℕ) → j < n → spelledName m e ≡ spelledName m (base + j) → ⊥
-  untagged spans n e {x} ax ex eh eg eq f j l z =
+        in-one : f / 8 < length marks
+        in-one = omega (arith, ef, size)
+
+        in-two : g / 8 < length (set marks (f / 8) r)
+        in-two = rw length-set (omega (arith, eg, size))
+
+        stays : (h : ℕ) → Marked marks h → Marked both h
+        stays h e = mark-stays (set marks (f / 8) r) (g / 8) (g % 8) s h in-two two (mark-stays marks (f / 8) (f % 8) r h in-one one e)
+
+  -- so a name that has not both its marks is none of theirs
+  pub unmarked : (marks : List ℕ) (n e : ℕ) {x : ℕ} → AllMarked factor m base marks n → x ≡ nameKey factor m e
+      → (Marked marks (firstMark x) × Marked marks (secondMark x) → ⊥) → (j : ℕ) → j < n → spelledName m e ≡ spelledName m (base + j) → ⊥
+  unmarked marks n e {x} all ex no-marks j l z =
       let u : nameKey factor m (base + j) ≡ x = ap (keyOf factor) (sym z) ∙ sym ex in
-      let t : spanned (getD spans (slotOf x) 0) (tagOf x) ≡ true = rw u at (ax j l) in
-      true≢false (sym t ∙ rw (eh, eg, f) at (sym eq))
+      no-marks (rw u at (all j l))
 
   -- where a walk for the name w starts, whose key is x
-  pub headed-at : (heads : List ℕ) (k : ℕ) (w : List ℕ) {x h v : ℕ} → Headed factor m base heads k → x ≡ keyOf factor w → h ≡ slotOf x → v ≡ getD heads (h / 2) 0
+  pub headed-at : (heads : List ℕ) (k : ℕ) (w : List ℕ) {x h v : ℕ} → Headed factor m base heads k → x ≡ keyOf factor w → h ≡ linkOf x → v ≡ getD heads h 0
       → v ≡ lastWith (linkAt factor m base) (linkOf (keyOf factor w)) k
-  headed-at heads k w {x} {h} all ex eh ev = ev ∙ all (h / 2) (omega (arith, eh)) ∙ ap (λ b. lastWith (linkAt factor m base) b k) (link-is x eh ∙ ap linkOf ex)
-
-pub no-spans : Fits (replicate 256 240)
-no-spans b l = rw (getD-replicate {A = ℕ} 256 b 240 0 l) (omega arith)
-
-pub fits-more : (spans : List ℕ) (r : ℕ) {h : ℕ} → h < length spans → Fit r → Fits spans → Fits (set spans h r)
-fits-more spans r {h} l f all b n = by (eqb b h) refl
-  where
-    by : (q : Bool) → eqb b h ≡ q → Fit (getD (set spans h r) b 0)
-    by true g = rw (eqb-true b h g, getD-set-same spans h r 0 l) f
-    by false g = rw (getD-set-other spans h b r 0 (λ u. eqb-false _ _ g u)) (all b n)
+  headed-at heads k w {x} {h} all ex eh ev = ev ∙ all h (omega (arith, eh)) ∙ ap (λ b. lastWith (linkAt factor m base) b k) (eh ∙ ap linkOf ex)
 
 -- DIFFERENT NAMES: one more, none of those before it
 module _ (m : List ℕ) (base : ℕ) where
@@ -196,13 +189,13 @@ module _ (m : List ℕ) (base : ℕ) where
       (λ y. all i j l y e)
       (eq-or-lt-of-le (le-of-suc-le-suc (rw (add-one k) at h)))
 
-  -- a walk for w that stopped at r, or at 200 with none met, passed none before r that is w
-  pub none-before : (factor k r : ℕ) (w : List ℕ) {v : ℕ} → v ≡ lastWith (linkAt factor m base) (linkOf (keyOf factor w)) k → Different m base k → r ≤ 200
-      → (r < 200 → (r < v) × (w ≡ spelledName m (base + r))) → (r ≡ 200 → (j : ℕ) → j < v → w ≡ spelledName m (base + j) → ⊥)
+  -- a walk for w that stopped at r, or at 240 with none met, passed none before r that is w
+  pub none-before : (factor k r : ℕ) (w : List ℕ) {v : ℕ} → v ≡ lastWith (linkAt factor m base) (linkOf (keyOf factor w)) k → Different m base k → r ≤ 240
+      → (r < 240 → (r < v) × (w ≡ spelledName m (base + r))) → (r ≡ 240 → (j : ℕ) → j < v → w ≡ spelledName m (base + j) → ⊥)
       → (j : ℕ) → j < r → j < k → w ≡ spelledName m (base + j) → ⊥
   none-before factor k r w start all l found none j h n e =
       ⊎-elim
-      (λ (y : r ≡ 200). none-of m base [] w factor k start (none y) j n e)
+      (λ (y : r ≡ 240). none-of m base [] w factor k start (none y) j n e)
       (λ y. all j r h (omega (arith, found y .0, start-le m base [] w factor k start)) (sym e ∙ found y .1))
       (eq-or-lt-of-le l)
 

@@ -1,3 +1,3 @@
+pub mod Marks
 pub mod Laws
-pub mod Widening
 pub mod Unique

@@ -1,9 +1,8 @@
 -- The keys by which the names of a block are linked and looked up. Assumes nothing: these are definitions.
-use Prim.Native.Nat.{ℕ, zero, suc, _+_, _-_, _*_, _/_, _%_, min, _<_, _≤_}
+use Prim.Native.Nat.{ℕ, zero, suc, _+_, _-_, _*_, _/_, _%_, _^_, _<_}
 use mathlib.Core.Path.{_≡_}
-use mathlib.Core.Bool.{Bool, true}
 use mathlib.Core.List.{List}
-use lib.Dec.{eqb, leb, ltb}
+use lib.Dec.{eqb, ltb}
 use lib.ListN.{length, getD}
 use Rattle.meaning.specs.Base.{pick, fold, word}
 use Rattle.meaning.specs.Book.{spelledName}
@@ -32,26 +31,26 @@ keyOf factor w =
 abbrev pub nameKey : ℕ → List ℕ → ℕ → ℕ
 nameKey factor m s = keyOf factor (spelledName m s)
 
--- a key's span, its tag there, and its link, which two spans share
-abbrev pub slotOf : ℕ → ℕ
-slotOf x = x / 1073741824 % 256
-
-abbrev pub tagOf : ℕ → ℕ
-tagOf x = min (x / 67108864 % 16) 14
-
+-- a key's link, and its two marks, each one of 2,048 bits
 abbrev pub linkOf : ℕ → ℕ
-linkOf x = slotOf x / 2
+linkOf x = x / 1073741824 % 128
 
--- a span is 16 times its lowest tag, plus how far it goes on; one that starts at 15 has no tag
-abbrev pub spanned : ℕ → ℕ → Bool
-spanned span g = leb ((g + 16 - span / 16) % 16) (span % 16)
+abbrev pub firstMark : ℕ → ℕ
+firstMark x = x / 67108864 % 2048
 
-abbrev pub Fit : ℕ → Type 0
-Fit span = span / 16 + span % 16 ≤ 15
+abbrev pub secondMark : ℕ → ℕ
+secondMark x = x / 32768 % 2048
 
--- r has the tag g, and every tag that span has
-abbrev pub Widens : ℕ → ℕ → ℕ → Type 0
-Widens span g r = (Fit r) × (spanned r g ≡ true) × ((h : ℕ) → h < 15 → spanned span h ≡ true → spanned r h ≡ true)
+-- bit p of a byte; mark h among the bytes of bits
+abbrev pub bitAt : ℕ → ℕ → ℕ
+bitAt b p = b / 2 ^ p % 2
+
+abbrev pub Marked : List ℕ → ℕ → Type 0
+Marked marks h = bitAt (getD marks (h / 8) 0) (h % 8) ≡ 1
+
+-- r has bit p, and every bit that b has
+abbrev pub Adds : ℕ → ℕ → ℕ → Type 0
+Adds b p r = (bitAt r p ≡ 1) × ((q : ℕ) → bitAt b q ≡ 1 → bitAt r q ≡ 1)
 
 -- one past the last number below k at which f is b, or 0
 unfoldable pub lastWith : (ℕ → ℕ) → ℕ → ℕ → ℕ
@@ -71,14 +70,11 @@ module _ (factor : ℕ) (m : List ℕ) (base : ℕ) where
   abbrev pub Headed : List ℕ → ℕ → Type 0
   Headed heads k = (b : ℕ) → b < 128 → getD heads b 0 ≡ lastWith linkAt b k
 
-  -- each of them has its tag in its span
-  abbrev pub Tagged : List ℕ → ℕ → Type 0
-  Tagged spans k =
-      (j : ℕ) → j < k → spanned (getD spans (slotOf (nameKey factor m (base + j))) 0) (tagOf (nameKey factor m (base + j))) ≡ true
-
--- every span fits
-abbrev pub Fits : List ℕ → Type 0
-Fits spans = (b : ℕ) → b < 256 → Fit (getD spans b 0)
+  -- each of them has both its marks
+  abbrev pub AllMarked : List ℕ → ℕ → Type 0
+  AllMarked marks k =
+      (j : ℕ) → j < k
+      → Marked marks (firstMark (nameKey factor m (base + j))) × Marked marks (secondMark (nameKey factor m (base + j)))
 
 module _ (m : List ℕ) (base : ℕ) where
   -- the first k names of the block are all different

@@ -1,22 +1,25 @@
-// The symbol records in order, each name against all before it, by blocks of 200.
+// The symbol records in order, each name against all before it, by blocks of 240.
 //
 // Total over any bytes. The names of a block are linked by a key, each looked up among those before it; then each name before the block
 // is looked up. Names are compared only where their links are the same. A block in which many are is linked again, by other keys.
 ghost use mathlib.Core.Path.{_≡_};
 ghost use mathlib.Core.Bool.{true, false};
-ghost use Prim.Native.Nat.{ℕ, _+_, _<_, _≤_};
+ghost use Prim.Native.Nat.{ℕ, _+_, _/_, _^_, min, _<_, _≤_};
 ghost use lib.ListN.{length};
 ghost use Rattle.meaning.specs.declared.Outcome.the-variants.{Clean};
 ghost use Rattle.meaning.specs.Base.{word, firstBelow};
 ghost use Rattle.meaning.specs.Book.{start as startOf, textStart, spelledName, newName, recordAt, sectionFault};
-ghost use Rattle.names.specs.Keys.{mix, few as fewOf, keyOf, slotOf, tagOf, spanned, Fit, Widens, Linked, Headed, Tagged, Different, Walk};
+ghost use Rattle.names.specs.Keys.{mix, few as fewOf, keyOf, linkOf, firstMark, secondMark, Marked, Adds, Linked, Headed, AllMarked, Different, Walk};
 use meaning::Outcome;
 
 // How many names a block has at most. No name of a block has this number, so it is also the answer where none is found.
-const BLOCK: usize = 200;
+const BLOCK: usize = 240;
 
 // The answer where more names had to be compared at once than a try allows.
-const CROWDED: usize = 201;
+const CROWDED: usize = 241;
+
+// The answer where more names had to be looked up than a try allows.
+const BUSY: usize = 241;
 
 // How many a try allows, but for the last one, which allows any number.
 const MOST: usize = 10;
@@ -78,46 +81,51 @@ fn key(name: &[u8], factor: usize) -> usize
     mixed(sum, factor, four(name, n - 8), four(name, n - 4)) * LAST_FACTOR
 }
 
-// A key's span.
-fn slot(x: usize) -> usize
-    ensures { λ r. ⌜ (r ≡ slotOf x) × (r < 256) ⌝ }
+// A key's link.
+fn link(x: usize) -> usize
+    ensures { λ r. ⌜ (r ≡ linkOf x) × (r < 128) ⌝ }
 {
-    x / 1073741824 % 256
+    x / 1073741824 % 128
 }
 
-// A key's tag in its span.
-fn tag(x: usize) -> u8
-    ensures { λ r. ⌜ (r ≡ tagOf x) × (r < 15) ⌝ }
+// A key's first mark.
+fn first_mark(x: usize) -> usize
+    ensures { λ r. ⌜ (r ≡ firstMark x) × (r < 2048) ⌝ }
 {
-    let g = (x / 67108864 % 16) as u8;
-    if 14 < g { 14 } else { g }
+    x / 67108864 % 2048
 }
 
-// Whether a span has tag g.
-fn spans(span: u8, g: u8) -> bool
-    requires { ⌜ g < 15 ⌝ }
-    ensures { λ r. ⌜ r ≡ spanned span g ⌝ }
+// A key's second mark.
+fn second_mark(x: usize) -> usize
+    ensures { λ r. ⌜ (r ≡ secondMark x) × (r < 2048) ⌝ }
 {
-    (g + 16 - span / 16) % 16 <= span % 16
+    x / 32768 % 2048
 }
 
-// A span made to have tag g too.
-fn widened(span: u8, g: u8) -> u8
-    requires { ⌜ (g < 15) × Fit span ⌝ }
-    ensures { λ r. ⌜ Widens span g r ⌝ }
+// The bits of a byte from p on.
+fn bits_from(b: u8, p: usize) -> u8
+    requires { ⌜ p < 8 ⌝ }
+    ensures { λ r. ⌜ r ≡ b / 2 ^ p ⌝ }
 {
-    let low = span / 16;
-    let more = span % 16;
-    if low == 15 {
-        return g * 16;
-    }
-    if g < low {
-        return g * 16 + (low - g + more);
-    }
-    if more < g - low {
-        return low * 16 + (g - low);
-    }
-    span
+    b >> p
+}
+
+// A byte with bit p set too.
+fn with_bit(b: u8, p: usize) -> u8
+    requires { ⌜ p < 8 ⌝ }
+    ensures { λ r. ⌜ Adds b p r ⌝ }
+{
+    b | (1u8 << p)
+}
+
+// Whether a key may be that of a name of the block: both its marks are set.
+fn maybe(marks: &[u8; 256], x: usize) -> bool
+    ensures { λ r. ⌜ (r ≡ false → Marked (now (marks .entry)) (firstMark x) × Marked (now (marks .entry)) (secondMark x) → ⊥) ⌝ }
+{
+    let f = first_mark(x);
+    let g = second_mark(x);
+    let both = bits_from(marks[f / 8], f % 8) & bits_from(marks[g / 8], g % 8);
+    both % 2 == 1
 }
 
 // What the keys of try c are made with.
@@ -139,8 +147,8 @@ fn seen(
     from: usize,
     most: usize,
 ) -> usize
-    requires { ⌜ (symbols ≡ startOf (now m) 1) × (symbols < 65536) × (texts ≡ textStart (now m)) × (texts < 65536) × (base < 65536) × (from ≤ 200) × Walk (now m) base (now nexts) (now name) from ⌝ }
-    ensures { λ r. ⌜ (r < 200 → (r < from) × (now (name .entry) ≡ spelledName (now (m .entry)) (base + r))) × (r ≡ 200 → (j : ℕ) → j < from → now (name .entry) ≡ spelledName (now (m .entry)) (base + j) → ⊥) × (r ≤ 201) × (200 ≤ most → r ≤ 200) ⌝ }
+    requires { ⌜ (symbols ≡ startOf (now m) 1) × (symbols < 65536) × (texts ≡ textStart (now m)) × (texts < 65536) × (base < 65536) × (from ≤ 240) × Walk (now m) base (now nexts) (now name) from ⌝ }
+    ensures { λ r. ⌜ (r < 240 → (r < from) × (now (name .entry) ≡ spelledName (now (m .entry)) (base + r))) × (r ≡ 240 → (j : ℕ) → j < from → now (name .entry) ≡ spelledName (now (m .entry)) (base + j) → ⊥) × (r ≤ 241) × (240 ≤ most → r ≤ 240) ⌝ }
 {
     let mut c = from;
     let mut left = most;
@@ -158,7 +166,23 @@ fn seen(
     BLOCK
 }
 
-// Which of the first k names of the block, all different, is the first that a name before the block is: k if none is.
+// The smaller of two numbers.
+fn lower(a: usize, b: usize) -> usize
+    ensures { λ r. ⌜ r ≡ min a b ⌝ }
+{
+    if b < a { b } else { a }
+}
+
+// How many names before the block a try may compare with one of the block: a quarter of them and some more, the last try all.
+fn lookups(base: usize, most: usize) -> usize
+    requires { ⌜ base < 65536 ⌝ }
+    ensures { λ r. ⌜ (240 ≤ most → base ≤ r) ⌝ }
+{
+    if most < BLOCK { base / 4 + 64 } else { base }
+}
+
+// Which of the first k names of the block, all different, is the first that a name before the block is: k if none is, BUSY if more names
+// had to be looked up than a try allows.
 fn earlier(
     m: &[u8],
     symbols: usize,
@@ -166,54 +190,49 @@ fn earlier(
     base: usize,
     k: usize,
     factor: usize,
+    most: usize,
     heads: &[u8; 128],
-    tags: &[u8; 256],
+    marks: &[u8; 256],
     nexts: &[u8; BLOCK],
 ) -> usize
-    requires { ⌜ (symbols ≡ startOf (now m) 1) × (symbols < 65536) × (texts ≡ textStart (now m)) × (texts < 65536) × (base < 65536) × (k ≤ 200) × (factor < 2147483648) × Headed factor (now m) base (now heads) k × Linked factor (now m) base (now nexts) k × Tagged factor (now m) base (now tags) k × Different (now m) base k ⌝ }
-    ensures { λ r. ⌜ (r ≤ k) × ((e : ℕ) → e < base → (j : ℕ) → j < r → spelledName (now (m .entry)) e ≡ spelledName (now (m .entry)) (base + j) → ⊥) × (r < k → newName (now (m .entry)) (base + r) ≡ false) ⌝ }
+    requires { ⌜ (symbols ≡ startOf (now m) 1) × (symbols < 65536) × (texts ≡ textStart (now m)) × (texts < 65536) × (base < 65536) × (k ≤ 240) × (factor < 2147483648) × Headed factor (now m) base (now heads) k × Linked factor (now m) base (now nexts) k × AllMarked factor (now m) base (now marks) k × Different (now m) base k ⌝ }
+    ensures { λ r. ⌜ (r ≤ 240 → (r ≤ k) × ((e : ℕ) → e < base → (j : ℕ) → j < r → spelledName (now (m .entry)) e ≡ spelledName (now (m .entry)) (base + j) → ⊥) × (r < k → newName (now (m .entry)) (base + r) ≡ false)) × (240 ≤ most → r ≤ 240) ⌝ }
 {
     let mut first = k;
+    let mut left = lookups(base, most);
     for e in 0..base {
         let name = fields::name_from(m, symbols, texts, e);
         let x = key(name, factor);
-        let h = slot(x);
-        if spans(tags[h], tag(x)) {
-            let j = seen(
-                m,
-                symbols,
-                texts,
-                base,
-                nexts,
-                name,
-                raw::wide(heads[h / 2]),
-                BLOCK,
-            );
-            if j < first {
-                first = j;
+        if maybe(marks, x) {
+            if left == 0 {
+                return BUSY;
             }
+            left -= 1;
+            let from = raw::wide(heads[link(x)]);
+            let j = seen(m, symbols, texts, base, nexts, name, from, BLOCK);
+            first = lower(first, j);
         }
     }
     first
 }
 
-// Which of the n names from base on is the first that is not new: n if all are, CROWDED if more than `most` names had to be compared at once.
+// Which of the n names from base on is the first that is not new: n if all are, CROWDED or BUSY if this try allows less.
 fn fresh(m: &[u8], base: usize, n: usize, factor: usize, most: usize) -> usize
-    requires { ⌜ (base < 65536) × (n ≤ 200) × (factor < 2147483648) ⌝ }
-    ensures { λ r. ⌜ (r ≤ n → ((s : ℕ) → base ≤ s → s < base + r → newName (now (m .entry)) s ≡ true) × (r < n → newName (now (m .entry)) (base + r) ≡ false)) × (200 ≤ most → r ≤ n) ⌝ }
+    requires { ⌜ (base < 65536) × (n ≤ 240) × (factor < 2147483648) ⌝ }
+    ensures { λ r. ⌜ (r ≤ n → ((s : ℕ) → base ≤ s → s < base + r → newName (now (m .entry)) s ≡ true) × (r < n → newName (now (m .entry)) (base + r) ≡ false)) × (240 ≤ most → r ≤ n) ⌝ }
 {
     let symbols = fields::start(m, 1);
     let texts = fields::text_start(m);
     let mut heads = [0u8; 128];
-    let mut tags = [240u8; 256];
+    let mut marks = [0u8; 256];
     let mut nexts = [0u8; BLOCK];
     let mut first = n;
     let mut k: usize = 0;
     while k < first {
         let name = fields::name_from(m, symbols, texts, base + k);
         let x = key(name, factor);
-        let h = slot(x);
-        let from = raw::wide(heads[h / 2]);
+        let h = link(x);
+        let from = raw::wide(heads[h]);
         let j = seen(m, symbols, texts, base, &nexts, name, from, most);
         if j == CROWDED {
             return j;
@@ -221,18 +240,32 @@ fn fresh(m: &[u8], base: usize, n: usize, factor: usize, most: usize) -> usize
         if j < BLOCK {
             first = k;
         } else {
-            nexts[k] = heads[h / 2];
-            heads[h / 2] = (k + 1) as u8;
-            tags[h] = widened(tags[h], tag(x));
+            nexts[k] = heads[h];
+            heads[h] = (k + 1) as u8;
+            let f = first_mark(x);
+            let g = second_mark(x);
+            marks[f / 8] = with_bit(marks[f / 8], f % 8);
+            marks[g / 8] = with_bit(marks[g / 8], g % 8);
             k += 1;
         }
     }
-    earlier(m, symbols, texts, base, k, factor, &heads, &tags, &nexts)
+    earlier(
+        m,
+        symbols,
+        texts,
+        base,
+        k,
+        factor,
+        most,
+        &heads,
+        &marks,
+        &nexts,
+    )
 }
 
 // Which of the n names from base on is the first that is not new, n if all are.
 fn first_old(m: &[u8], base: usize, n: usize) -> usize
-    requires { ⌜ (base < 65536) × (n ≤ 200) ⌝ }
+    requires { ⌜ (base < 65536) × (n ≤ 240) ⌝ }
     ensures { λ r. ⌜ (r ≤ n) × ((s : ℕ) → base ≤ s → s < base + r → newName (now (m .entry)) s ≡ true) × (r < n → newName (now (m .entry)) (base + r) ≡ false) ⌝ }
 {
     let mut c: usize = 0;
@@ -271,7 +304,7 @@ fn block_fault(m: &[u8], base: usize, end: usize) -> Outcome
 // Where the block from base on ends.
 fn end_of(base: usize, n: usize) -> usize
     requires { ⌜ (base < n) × (n < 65536) ⌝ }
-    ensures { λ r. ⌜ (base < r) × (r ≤ n) × (r ≤ base + 200) ⌝ }
+    ensures { λ r. ⌜ (base < r) × (r ≤ n) × (r ≤ base + 240) ⌝ }
 {
     if n - base < BLOCK { n } else { base + BLOCK }
 }
