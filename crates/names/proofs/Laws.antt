@@ -189,13 +189,13 @@ module _ (m : List ℕ) (base : ℕ) where
       (λ y. all i j l y e)
       (eq-or-lt-of-le (le-of-suc-le-suc (rw (add-one k) at h)))
 
-  -- a walk for w that stopped at r, or at 240 with none met, passed none before r that is w
-  pub none-before : (factor k r : ℕ) (w : List ℕ) {v : ℕ} → v ≡ lastWith (linkAt factor m base) (linkOf (keyOf factor w)) k → Different m base k → r ≤ 240
-      → (r < 240 → (r < v) × (w ≡ spelledName m (base + r))) → (r ≡ 240 → (j : ℕ) → j < v → w ≡ spelledName m (base + j) → ⊥)
+  -- a walk for w that stopped at r, or at 224 with none met, passed none before r that is w
+  pub none-before : (factor k r : ℕ) (w : List ℕ) {v : ℕ} → v ≡ lastWith (linkAt factor m base) (linkOf (keyOf factor w)) k → Different m base k → r ≤ 224
+      → (r < 224 → (r < v) × (w ≡ spelledName m (base + r))) → (r ≡ 224 → (j : ℕ) → j < v → w ≡ spelledName m (base + j) → ⊥)
       → (j : ℕ) → j < r → j < k → w ≡ spelledName m (base + j) → ⊥
   none-before factor k r w start all l found none j h n e =
       ⊎-elim
-      (λ (y : r ≡ 240). none-of m base [] w factor k start (none y) j n e)
+      (λ (y : r ≡ 224). none-of m base [] w factor k start (none y) j n e)
       (λ y. all j r h (omega (arith, found y .0, start-le m base [] w factor k start)) (sym e ∙ found y .1))
       (eq-or-lt-of-le l)
 

@@ -1,4 +1,4 @@
-// The symbol records in order, each name against all before it, by blocks of 240.
+// The symbol records in order, each name against all before it, by blocks of 224.
 //
 // Total over any bytes. The names of a block are linked by a key, each looked up among those before it; then each name before the block
 // is looked up. Names are compared only where their links are the same. A block in which many are is linked again, by other keys.
@@ -13,13 +13,13 @@ ghost use Rattle.names.specs.Keys.{mix, few as fewOf, keyOf, linkOf, fir
 use meaning::Outcome;
 
 // How many names a block has at most. No name of a block has this number, so it is also the answer where none is found.
-const BLOCK: usize = 240;
+const BLOCK: usize = 224;
 
 // The answer where more names had to be compared at once than a try allows.
-const CROWDED: usize = 241;
+const CROWDED: usize = 225;
 
 // The answer where more names had to be looked up than a try allows.
-const BUSY: usize = 241;
+const BUSY: usize = 225;
 
 // How many a try allows, but for the last one, which allows any number.
 const MOST: usize = 10;
@@ -147,8 +147,8 @@ fn seen(
     from: usize,
     most: usize,
 ) -> usize
-    requires { ⌜ (symbols ≡ startOf (now m) 1) × (symbols < 65536) × (texts ≡ textStart (now m)) × (texts < 65536) × (base < 65536) × (from ≤ 240) × Walk (now m) base (now nexts) (now name) from ⌝ }
-    ensures { λ r. ⌜ (r < 240 → (r < from) × (now (name .entry) ≡ spelledName (now (m .entry)) (base + r))) × (r ≡ 240 → (j : ℕ) → j < from → now (name .entry) ≡ spelledName (now (m .entry)) (base + j) → ⊥) × (r ≤ 241) × (240 ≤ most → r ≤ 240) ⌝ }
+    requires { ⌜ (symbols ≡ startOf (now m) 1) × (symbols < 65536) × (texts ≡ textStart (now m)) × (texts < 65536) × (base < 65536) × (from ≤ 224) × Walk (now m) base (now nexts) (now name) from ⌝ }
+    ensures { λ r. ⌜ (r < 224 → (r < from) × (now (name .entry) ≡ spelledName (now (m .entry)) (base + r))) × (r ≡ 224 → (j : ℕ) → j < from → now (name .entry) ≡ spelledName (now (m .entry)) (base + j) → ⊥) × (r ≤ 225) × (224 ≤ most → r ≤ 224) ⌝ }
 {
     let mut c = from;
     let mut left = most;
@@ -176,7 +176,7 @@ fn lower(a: usize, b: usize) -> usize
 // How many names before the block a try may compare with one of the block: a quarter of them and some more, the last try all.
 fn lookups(base: usize, most: usize) -> usize
     requires { ⌜ base < 65536 ⌝ }
-    ensures { λ r. ⌜ (240 ≤ most → base ≤ r) ⌝ }
+    ensures { λ r. ⌜ (224 ≤ most → base ≤ r) ⌝ }
 {
     if most < BLOCK { base / 4 + 64 } else { base }
 }
@@ -195,8 +195,8 @@ fn earlier(
     marks: &[u8; 256],
     nexts: &[u8; BLOCK],
 ) -> usize
-    requires { ⌜ (symbols ≡ startOf (now m) 1) × (symbols < 65536) × (texts ≡ textStart (now m)) × (texts < 65536) × (base < 65536) × (k ≤ 240) × (factor < 2147483648) × Headed factor (now m) base (now heads) k × Linked factor (now m) base (now nexts) k × AllMarked factor (now m) base (now marks) k × Different (now m) base k ⌝ }
-    ensures { λ r. ⌜ (r ≤ 240 → (r ≤ k) × ((e : ℕ) → e < base → (j : ℕ) → j < r → spelledName (now (m .entry)) e ≡ spelledName (now (m .entry)) (base + j) → ⊥) × (r < k → newName (now (m .entry)) (base + r) ≡ false)) × (240 ≤ most → r ≤ 240) ⌝ }
+    requires { ⌜ (symbols ≡ startOf (now m) 1) × (symbols < 65536) × (texts ≡ textStart (now m)) × (texts < 65536) × (base < 65536) × (k ≤ 224) × (factor < 2147483648) × Headed factor (now m) base (now heads) k × Linked factor (now m) base (now nexts) k × AllMarked factor (now m) base (now marks) k × Different (now m) base k ⌝ }
+    ensures { λ r. ⌜ (r ≤ 224 → (r ≤ k) × ((e : ℕ) → e < base → (j : ℕ) → j < r → spelledName (now (m .entry)) e ≡ spelledName (now (m .entry)) (base + j) → ⊥) × (r < k → newName (now (m .entry)) (base + r) ≡ false)) × (224 ≤ most → r ≤ 224) ⌝ }
 {
     let mut first = k;
     let mut left = lookups(base, most);
@@ -218,8 +218,8 @@ fn earlier(
 
 // Which of the n names from base on is the first that is not new: n if all are, CROWDED or BUSY if this try allows less.
 fn fresh(m: &[u8], base: usize, n: usize, factor: usize, most: usize) -> usize
-    requires { ⌜ (base < 65536) × (n ≤ 240) × (factor < 2147483648) ⌝ }
-    ensures { λ r. ⌜ (r ≤ n → ((s : ℕ) → base ≤ s → s < base + r → newName (now (m .entry)) s ≡ true) × (r < n → newName (now (m .entry)) (base + r) ≡ false)) × (240 ≤ most → r ≤ n) ⌝ }
+    requires { ⌜ (base < 65536) × (n ≤ 224) × (factor < 2147483648) ⌝ }
+    ensures { λ r. ⌜ (r ≤ n → ((s : ℕ) → base ≤ s → s < base + r → newName (now (m .entry)) s ≡ true) × (r < n → newName (now (m .entry)) (base + r) ≡ false)) × (224 ≤ most → r ≤ n) ⌝ }
 {
     let symbols = fields::start(m, 1);
     let texts = fields::text_start(m);
@@ -265,7 +265,7 @@ fn fresh(m: &[u8], base: usize, n: usize, factor: usize, most: usize) -> usize
 
 // Which of the n names from base on is the first that is not new, n if all are.
 fn first_old(m: &[u8], base: usize, n: usize) -> usize
-    requires { ⌜ (base < 65536) × (n ≤ 240) ⌝ }
+    requires { ⌜ (base < 65536) × (n ≤ 224) ⌝ }
     ensures { λ r. ⌜ (r ≤ n) × ((s : ℕ) → base ≤ s → s < base + r → newName (now (m .entry)) s ≡ true) × (r < n → newName (now (m .entry)) (base + r) ≡ false) ⌝ }
 {
     let mut c: usize = 0;
@@ -304,7 +304,7 @@ fn block_fault(m: &[u8], base: usize, end: usize) -> Outcome
 // Where the block from base on ends.
 fn end_of(base: usize, n: usize) -> usize
     requires { ⌜ (base < n) × (n < 65536) ⌝ }
-    ensures { λ r. ⌜ (base < r) × (r ≤ n) × (r ≤ base + 240) ⌝ }
+    ensures { λ r. ⌜ (base < r) × (r ≤ n) × (r ≤ base + 224) ⌝ }
 {
     if n - base < BLOCK { n } else { base + BLOCK }
 }

@@ -1,6 +1,6 @@
 //! The kinds of inputs, with the sizes they are made in.
 
-use crate::{choices, clearances, fair, names, nodes, records, run::Given, Size};
+use crate::{choices, clearances, fair, made, names, nodes, records, run::Given, Size};
 use second::cases::{Case, NAME};
 
 /// What is made twice as large to see how the cost grows.
@@ -86,6 +86,8 @@ pub const KINDS: &[Kind] = &[
     kind!(names::names_differ_in_one_letter, 0, [of(900)], of(450), Book),
     kind!(names::names_of_the_same_words, 0, [of(900)], of(450), Book),
     kind!(names::names_like_snd_0001_soc, 0, [of(3200)], of(1500), Book),
+    kind!(made::names_made_for_one_link, 0, [of(4000)], of(1500), Book),
+    kind!(made::names_made_for_all_marks, 0, [of(4000)], of(1500), Book),
     kind!(names::names_of_the_same_letters, 0, [of(2900)], of(1450), Book),
     kind!(names::names_as_short_as_can_be, 0, [of(8000)], of(2000), Book),
     kind!(names::names_of_every_length, 0, [of(8150)], of(2000), Book),

@@ -9,6 +9,7 @@ pub mod counts;
 pub mod fair;
 pub mod judge;
 pub mod kinds;
+pub mod made;
 pub mod names;
 pub mod nodes;
 pub mod records;

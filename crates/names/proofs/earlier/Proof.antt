@@ -20,7 +20,7 @@ use Rattle.names.proofs.seen.Reads as seen-reads
 use Rattle.raw.proofs.wide.Reads as wide-reads
 
 abbrev Inv-loop : tie.InvT-loop
-Inv-loop m symbols texts base k factor most heads marks nexts first₀ left₀ e₀ first left e = (e ≤ base) × First m base k first e × (240 ≤ most → base ≤ left + e)
+Inv-loop m symbols texts base k factor most heads marks nexts first₀ left₀ e₀ first left e = (e ≤ base) × First m base k first e × (224 ≤ most → base ≤ left + e)
 
 abbrev μ-loop : tie.MeasureT-loop
 μ-loop m symbols texts base k factor most heads marks nexts first₀ left₀ e₀ first left e = base - e

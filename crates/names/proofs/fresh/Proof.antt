@@ -28,7 +28,7 @@ use Rattle.names.proofs.with_bit.Reads as with-bit-reads
 use Rattle.raw.proofs.wide.Reads as wide-reads
 
 abbrev Inv-loop : tie.InvT-loop
-Inv-loop m base n factor most symbols texts heads₀ marks₀ nexts₀ first₀ k₀ heads marks nexts first k = (k ≤ first) × (first ≤ n) × (length heads ≡ 128) × (length marks ≡ 256) × (length nexts ≡ 240) × Headed factor m base heads k × Linked factor m base nexts k × AllMarked factor m base marks k × Different m base k × (first < n → newName m (base + first) ≡ false)
+Inv-loop m base n factor most symbols texts heads₀ marks₀ nexts₀ first₀ k₀ heads marks nexts first k = (k ≤ first) × (first ≤ n) × (length heads ≡ 128) × (length marks ≡ 256) × (length nexts ≡ 224) × Headed factor m base heads k × Linked factor m base nexts k × AllMarked factor m base marks k × Different m base k × (first < n → newName m (base + first) ≡ false)
 
 abbrev μ-loop : tie.MeasureT-loop
 μ-loop m base n factor most symbols texts heads₀ marks₀ nexts₀ first₀ k₀ heads marks nexts first k = first - k
