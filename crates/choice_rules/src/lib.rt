@@ -1,6 +1,7 @@
 // Rules 15 to 17 at one choice, and rule 18 at one symbol.
 //
 // Total over any bytes: `vs` has the nodes' values. A choice's number is below 2^16.
+#![tactic(auto)]
 ghost use Rattle.std.specs.Prelude.{◌≡◌, ◌+◌, ◌<◌, eqb};
 ghost use Rattle.meaning.specs.Base.{pick, first_where};
 ghost use Rattle.meaning.specs.Book.{member_of, member_count};

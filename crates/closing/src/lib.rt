@@ -1,6 +1,7 @@
 // The closing of a clearance's leaf: its rule is broken, or for mark 20 the select not unmet, under every independent pick.
 //
 // Total over any book and any sets; `closed_on` is what the walk calls, and whoever else has the sets of a path.
+#![tactic(auto)]
 ghost use Rattle.std.specs.Prelude.{◌≡◌, ◌&&◌, ◌<◌, ltb};
 ghost use Rattle.meaning.specs.Book.{member_count};
 ghost use Rattle.meaning.specs.Rules.{at_least};

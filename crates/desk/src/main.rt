@@ -1,4 +1,5 @@
 // The program: a model and a table on standard input, one line on standard output.
+#![tactic(auto)]
 ghost use Rattle.std.specs.Prelude.{◌≡◌, length};
 
 use libc::{STDIN_FILENO, STDOUT_FILENO};

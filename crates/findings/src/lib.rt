@@ -1,6 +1,7 @@
 // The finding check: the head, then a witness through the table check's own code, or a clearance walked node by node.
 //
 // Any bytes in, one outcome out, and both rooms afterwards as document 01 owes them.
+#![tactic(auto)]
 ghost use Rattle.std.specs.Prelude.{◌≡◌, true, ◌+◌, ◌<◌, ◌≤◌, length, replicate};
 ghost use Rattle.meaning.specs.Book.{symbols as symbols_of, nodes as nodes_of};
 ghost use Rattle.meaning.specs.Rules.{unmet_in};

@@ -1,6 +1,7 @@
 // The program's line, from its whole input: the split, the check, and the line's text.
 //
 // The caller lends 65,535 bytes of node work, which is a byte for every node that a book can count, and room for the line.
+#![tactic(auto)]
 ghost use Rattle.std.specs.Prelude.{◌≡◌, ◌+◌, ◌<◌, ◌≤◌, ◌∷◌, [], ◌++◌, length, drop};
 ghost use Rattle.meaning.specs.Base.{answer_of};
 ghost use Rattle.meaning.specs.Book.{name_of};

@@ -1,6 +1,7 @@
 // Document 01's terms: the types that its answers use. What they mean stands in `specs`, in the paper's own order.
 //
 // Everything above this crate is proved against those definitions; nothing here runs.
+#![tactic(auto)]
 
 // What a check finds: nothing, or the first fault as number, place and second place.
 #[derive(Drop)]

@@ -1,6 +1,8 @@
 // Reads, a store and a comparison of bytes that are total: no index to prove. And a fault under a test.
 //
 // Past a slice's end a byte is 0, a part has as much as there is, and a store changes nothing.
+#![tactic(auto)]
+
 ghost use Rattle.std.specs.Prelude.{◌≡◌, ◌+◌, ◌*◌, ◌<◌, get_or, set};
 ghost use Rattle.meaning.specs.Base.{half as half_of, word as word_of, part as part_of, same_text, when};
 ghost use Rattle.meaning.specs.declared.Outcome.TheVariants.{Fault};

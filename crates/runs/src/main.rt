@@ -3,6 +3,7 @@
 //
 // A case is seven u32, little-endian: kind (0 table check, 1 finding check, 2 name), then the lengths of name, model, second, node work and
 // symbol work, and the index asked for; then those bytes.
+#![tactic(auto)]
 ghost use Rattle.std.specs.Prelude.{◌≡◌, length, ◌≤◌};
 
 use libc::STDOUT_FILENO;

@@ -1,6 +1,7 @@
 // The three values n, m, y, and the three operations on them.
 //
 // They stand in that order as 0, 1, 2. Each operation is total: a number above 2 in `v` does no harm.
+#![tactic(auto)]
 ghost use Rattle.std.specs.Prelude.{◌≡◌};
 ghost use Rattle.tri.specs.Three.{tri_of, not_of, and_of, or_of};
 
