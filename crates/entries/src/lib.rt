@@ -3,6 +3,7 @@
 // Total over any bytes. Answers 5 and 6 come from `fault`; `entry` is an entry as that reads it, found or refused; `value` is
 // what stands at a symbol, n where nothing does.
 #![tactic(auto)]
+
 ghost use Rattle.std.specs.Prelude.{◌≡◌, ◌<◌, ◌^◌};
 ghost use Rattle.meaning.specs.Table.{entries as entries_of, kind_of, length_of, start_of, body_due, length_fits, byte_fits, entry_ok};
 ghost use Rattle.meaning.specs.Table.{contents_fault, entry_at, bodies_fault, table_fault, signed_of, read_of, entry_of, value_of};

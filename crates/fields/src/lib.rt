@@ -3,6 +3,7 @@
 // Total over any bytes; offsets and widths stand here and nowhere else. A record's number is below 2^32, so that no sum can
 // overflow: every number that a book holds is below 2^16.
 #![tactic(auto)]
+
 ghost use Rattle.std.specs.Prelude.{◌≡◌, ◌<◌, ◌^◌, length};
 ghost use Rattle.meaning.specs.Book.{start as start_of, count as count_of, width as width_of, byte_in, half_in};
 ghost use Rattle.meaning.specs.Book.{total as total_of, modules_of, text_start, name_start, spelled_name, three_type, is_leaf};

@@ -2,6 +2,7 @@
 //
 // Total over any bytes. Each test is document 01's, by its definition; a record's number is below 2^32.
 #![tactic(auto)]
+
 ghost use Rattle.std.specs.Prelude.{◌≡◌, ◌+◌, ◌<◌, ◌^◌, ◌&&◌, not, leb, ltb, length, get_or};
 ghost use Rattle.meaning.specs.Base.{all_below};
 ghost use Rattle.meaning.specs.Book.{symbols as symbols_of, nodes as nodes_of, type_of, prompt_of, depend_of, choice_kind, member_symbol};

@@ -2,6 +2,7 @@
 //
 // Total over any bytes. A number is spelled into a buffer of 14 bytes, from its end.
 #![tactic(auto)]
+
 ghost use Rattle.std.specs.Prelude.{◌≡◌, ◌+◌, ◌<◌, ◌≤◌, [], length, drop, nat_abs};
 ghost use Rattle.meaning.specs.Base.{same_text};
 ghost use Rattle.meaning.specs.Spell.{digit, digits, letter, spelled_int, spelled_hex};

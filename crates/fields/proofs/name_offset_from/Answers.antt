@@ -1,0 +1,7 @@
+-- `fields::name_offset_from` meets its contract: the start is the symbols' own.
+use Rattle.meaning.specs.Book.{half_in}
+use Rattle.fields.proofs.name_offset_from.Goals as goal
+
+pub returns : goal.returns
+unfolding half_in
+returns c = (rw c.requires.0 at c.half.ensures.0, c.half.ensures.1)
