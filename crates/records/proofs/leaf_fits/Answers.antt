@@ -18,4 +18,4 @@ returns-in-2 c = rw (c.in-2.is, c.texts.ensures.0)
 
 pub returns-in_default : goal.returns-in_default
 unfolding leaf_fits
-returns-in_default c = rw (ne_eqb _ 0 (omega arith), ne_eqb _ 1 (omega arith), ne_eqb _ 2 (omega arith))
+returns-in_default c = rw (ne_eqb c.args.op 0 (omega arith), ne_eqb c.args.op 1 (omega arith), ne_eqb c.args.op 2 (omega arith))

@@ -18,7 +18,7 @@ returns-in-6-to-7 c = rw (lt-leb c.args.op 4 (omega arith), ne_eqb c.args.op 5 (
 
 pub returns-in-8-to-9 : goal.returns-in-8-to-9
 unfolding node_fits
-returns-in-8-to-9 c = rw (lt-leb c.args.op 4 (omega arith), ne_eqb c.args.op 5 (omega arith), lt-leb c.args.op 7 (omega arith), le-leb c.args.op 9 (omega arith), c.is_leaf_of.ensures, c.is_leaf-in-8-to-9.ensures)
+returns-in-8-to-9 c = rw (lt-leb c.args.op 4 (omega arith), ne_eqb c.args.op 5 (omega arith), lt-leb c.args.op 7 (omega arith), le-leb c.args.op 9 (omega arith), c.is_leaf.ensures, c.is_leaf-in-8-to-9.ensures)
 
 pub returns-in_default : goal.returns-in_default
 unfolding node_fits

@@ -6,7 +6,7 @@ use Rattle.records.proofs.record_ok.Goals as goal
 
 pub returns-in-2 : goal.returns-in-2
 unfolding record_ok
-returns-in-2 c = rw c.in-2.is c.Node-Ok.ensures
+returns-in-2 c = rw c.in-2.is c.node_ok.ensures
 
 pub returns-in-3 : goal.returns-in-3
 unfolding record_ok
@@ -26,4 +26,4 @@ returns-in-6 c = rw c.in-6.is c.choice_ok.ensures
 
 pub returns-in_default : goal.returns-in_default
 unfolding record_ok
-returns-in_default c = rw (ne_eqb _ 1 c.requires.0, ne_eqb _ 2 (omega arith), ne_eqb _ 3 (omega arith), ne_eqb _ 4 (omega arith), ne_eqb _ 5 (omega arith), ne_eqb _ 6 (omega arith))
+returns-in_default c = rw (ne_eqb c.args.k 1 c.requires.0, ne_eqb c.args.k 2 (omega arith), ne_eqb c.args.k 3 (omega arith), ne_eqb c.args.k 4 (omega arith), ne_eqb c.args.k 5 (omega arith), ne_eqb c.args.k 6 (omega arith))
