@@ -3,6 +3,7 @@
 // Total over any bytes. One pass over the member records marks the symbols of a block that were met; each next one goes up to the
 // first record found so far.
 #![tactic(auto)]
+
 ghost use Rattle.std.specs.Prelude.{◌≡◌, ◌+◌, ◌-◌, ◌<◌, ◌≤◌, ltb};
 ghost use Rattle.meaning.specs.Base.{pick};
 ghost use Rattle.members.specs.Old.{FirstOldIn, FirstOld};

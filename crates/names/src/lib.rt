@@ -3,6 +3,7 @@
 // Total over any bytes. The names of a block are linked by a key, each looked up among those before it; then each name before the block
 // is looked up. Names are compared only where their links are the same. A block in which many are is linked again, by other keys.
 #![tactic(auto)]
+
 ghost use Rattle.std.specs.Prelude.{◌≡◌, true, false, ℕ, ◌+◌, ◌/◌, ◌^◌, min, ◌<◌, ◌≤◌, length};
 ghost use Rattle.meaning.specs.declared.Outcome.TheVariants.{Clean};
 ghost use Rattle.meaning.specs.Base.{word, first_below};
