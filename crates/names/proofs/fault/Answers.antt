@@ -15,7 +15,7 @@ loop-base-init c = (omega arith, clean_none _)
 pub block_fault-at-requires : goal.block_fault-at-requires
 block_fault-at-requires c =
     let loop = c.loop-base in
-    (omega arith, omega (arith, c.first_old.ensures.0, c.end_of.ensures.1), loop.invariant.1, c.first_old.ensures.1)
+    (omega arith, omega (arith, c.first_old.ensures.0, c.end_of-end.ensures.1), loop.invariant.1, c.first_old.ensures.1)
 
 pub returns-in-Fault : goal.returns-in-Fault
 unfolding section_fault
@@ -23,7 +23,7 @@ returns-in-Fault c =
     let given = c.args in
     let symbols = c.symbols-n in
     let loop = c.loop-base in
-    let end_of-end = c.end_of in
+    let end_of-end = c.end_of-end in
     let first-old = c.first_old in
     let block = c.block_fault-at in
     rw symbols.ensures.0 at (block_fault (record_at given.m.now 1) symbols.result (loop.base + first-old.result) block.ensures c.in-Fault.is (omega (arith, first-old.ensures.0, end_of-end.ensures.1)))
@@ -34,7 +34,7 @@ returns-then-old-end c =
     let given = c.args in
     let symbols = c.symbols-n in
     let loop = c.loop-base in
-    let end_of-end = c.end_of in
+    let end_of-end = c.end_of-end in
     let first-old = c.first_old in
     let block = c.block_fault-at in
     let old = loop.base + first-old.result in
@@ -43,7 +43,7 @@ returns-then-old-end c =
 pub loop-base-preserved : goal.loop-base-preserved
 loop-base-preserved c =
     let loop = c.loop-base in
-    let end_of-end = c.end_of in
+    let end_of-end = c.end_of-end in
     let first-old = c.first_old in
     let block = c.block_fault-at in
     let e : loop.base + first-old.result ≡ end_of-end.result = omega (arith, first-old.ensures.0) in
