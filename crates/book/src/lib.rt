@@ -3,6 +3,7 @@
 // Total over any bytes. `fault` has answers 1 to 4, the first fault in document 01's order with both its places; `name` hands
 // back the part of the book that spells a symbol's name.
 #![tactic(auto)]
+
 ghost use Rattle.std.specs.Prelude.{◌≡◌, ◌+◌, ◌<◌, ◌≤◌};
 ghost use Rattle.meaning.specs.Base.{first_below};
 ghost use Rattle.meaning.specs.Book.{due as due_of, length_fault, chain_at, end_fault, chain_fault, record_at, section_fault};

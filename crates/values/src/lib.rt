@@ -3,6 +3,7 @@
 // Total over any bytes. `fill` writes each node's value into the node work, and `at` reads it there; `given` has what a select
 // gives its target by those values, `leaf` what a leaf stands for.
 #![tactic(auto)]
+
 ghost use Rattle.std.specs.Prelude.{◌≡◌, ◌++◌, ◌<◌, ◌≤◌, ◌^◌, length, drop};
 ghost use Rattle.tri.specs.Three.{tri_of};
 ghost use Rattle.meaning.specs.Book.{nodes as nodes_of};

@@ -1,0 +1,42 @@
+-- `book::members_fault` meets its contract: it goes on while every choice's members are well formed, and the next ones begin where these end, no later than the first old record.
+use Rattle.meaning.specs.Book.{members_fault}
+use Rattle.meaning.specs.Base.{first_below}
+use native.Mathlib.Omega.{arith}
+use Prim.Native.Nat.{◌-◌}
+use Rattle.meaning.proofs.First.{clean_none, clean_more, place_fault}
+use Rattle.meaning.proofs.Folds.{at_end}
+use Rattle.book.proofs.Laws.{due_none, due_more}
+use Rattle.book.proofs.members_fault.Goals as goal
+
+pub loop-c-init : goal.loop-c-init
+loop-c-init c = (omega arith, clean_none _, due_none _ c.first_old-old.ensures)
+
+pub choice_members_fault-at-requires : goal.choice_members_fault-at-requires
+choice_members_fault-at-requires c =
+    let pre = c.requires in
+    let choices = c.choices-n in
+    let first-old = c.first_old-old in
+    let turn = pre c.loop-c.c (omega (arith, choices.ensures.0)) in
+    (omega arith, turn.1, turn.2, first-old.ensures, omega (arith, turn.0, c.loop-c.invariant.2))
+
+pub returns-in-Fault : goal.returns-in-Fault
+unfolding members_fault
+returns-in-Fault c =
+    let loop = c.loop-c in
+    let choice-members-fault = c.choice_members_fault-at in
+    place_fault _ _ _ loop.invariant.1 choice-members-fault.ensures c.in-Fault.is (omega arith)
+
+pub loop-c-preserved : goal.loop-c-preserved
+loop-c-preserved c =
+    let pre = c.requires in
+    let choices = c.choices-n in
+    let first-old = c.first_old-old in
+    let loop = c.loop-c in
+    let choice-members-fault = c.choice_members_fault-at in
+    let turn = pre loop.c (omega (arith, choices.ensures.0)) in
+    let clean = c.in_default.is in
+    (omega arith, clean_more _ _ loop.invariant.1 choice-members-fault.ensures clean, due_more _ first-old.ensures _ loop.invariant.2 turn choice-members-fault.ensures clean)
+
+pub returns : goal.returns
+unfolding members_fault
+returns c = at_end (first_below _) c.loop-c.invariant.1 (omega arith)
