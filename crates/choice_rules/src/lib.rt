@@ -2,6 +2,7 @@
 //
 // Total over any bytes: `vs` has the nodes' values. A choice's number is below 2^16.
 #![tactic(auto)]
+
 ghost use Rattle.std.specs.Prelude.{◌≡◌, ◌+◌, ◌<◌, eqb};
 ghost use Rattle.meaning.specs.Base.{pick, first_where};
 ghost use Rattle.meaning.specs.Book.{member_of, member_count};

@@ -3,6 +3,7 @@
 // A set is a byte: 1 for n, 2 for m, 4 for y, added up. `ys` has the symbols' sets. The node work keeps the set of a node once it
 // is worked out, so that only what is read is worked out, and that once.
 #![tactic(auto)]
+
 ghost use Rattle.std.specs.Prelude.{◌≡◌, ◌||◌, true, false, ℕ, ◌+◌, ◌<◌, ◌≤◌, ◌^◌, eqb, leb, length, get_or};
 ghost use Rattle.tri.specs.Three.{tri_of, and_of, or_of};
 ghost use Rattle.meaning.specs.Base.{pick};

@@ -2,6 +2,7 @@
 //
 // Total over any bytes: `vs` has the nodes' values, and the caller knows a symbol's Default and Lower. A symbol's number is below 2^16.
 #![tactic(auto)]
+
 ghost use Rattle.std.specs.Prelude.{◌≡◌, ◌⊎◌, ◌<◌, ◌≤◌, leb};
 ghost use Rattle.std.specs.Int.Signed.{le_z};
 ghost use Rattle.meaning.specs.declared.Outcome.TheVariants.{Clean, Fault};

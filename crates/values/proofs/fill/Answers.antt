@@ -13,10 +13,10 @@ pub loop-i-init : goal.loop-i-init
 loop-i-init c = (omega arith, refl, build_none _ _)
 
 pub slice_bounds-node_value-end-in-loop-i : goal.slice_bounds-node_value-end-in-loop-i
-slice_bounds-node_value-end-in-loop-i c = sym (length-take-le c.loop.i c.loop.work (omega arith))
+slice_bounds-node_value-end-in-loop-i c = sym (length-take-le c.loop-i.i c.loop-i.work (omega arith))
 
 pub loop-i-preserved : goal.loop-i-preserved
-loop-i-preserved c = (omega arith, simp length-set (omega arith), build_more _ c.args.work.now c.loop.i (omega arith) c.loop.invariant.2 c.node_value-v.ensures)
+loop-i-preserved c = (omega arith, simp length-set (omega arith), build_more _ c.args.work.now c.loop-i.i (omega arith) c.loop-i.invariant.2 c.node_value-v.ensures)
 
 pub returns : goal.returns
 unfolding node_values

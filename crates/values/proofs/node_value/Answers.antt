@@ -21,7 +21,7 @@ pub returns-in-9 : goal.returns-in-9
 returns-in-9 c = node_unlike c.args.m.now c.args.t.now c.args.done.now c.args.i _ c.op_of-op.ensures c.left_of-left.ensures.0 c.right_of-right.ensures.0 c.in-9.is c.equal-in-9.ensures c.not-in-9.ensures
 
 pub returns-in-0-to-4 : goal.returns-in-0-to-4
-returns-in-0-to-4 c = node-leaf c.args.m.now c.args.t.now c.args.done.now c.args.i _ c.op_of-op.ensures c.left_of-left.ensures.0 c.right_of-right.ensures.0 (le_of_suc-le-suc c.if-op-lt5.true) c.leaf_value.ensures
+returns-in-0-to-4 c = node-leaf c.args.m.now c.args.t.now c.args.done.now c.args.i _ c.op_of-op.ensures c.left_of-left.ensures.0 c.right_of-right.ensures.0 (omega arith) c.leaf_value.ensures
 
 pub returns-in_default : goal.returns-in_default
-returns-in_default c = node_none c.args.m.now c.args.t.now c.args.done.now c.args.i _ c.op_of-op.ensures c.left_of-left.ensures.0 c.right_of-right.ensures.0 c.if-op-lt5.false (omega arith) (omega arith) (omega arith) (omega arith) (omega arith) refl
+returns-in_default c = node_none c.args.m.now c.args.t.now c.args.done.now c.args.i _ c.op_of-op.ensures c.left_of-left.ensures.0 c.right_of-right.ensures.0 (omega arith) (omega arith) (omega arith) (omega arith) (omega arith) (omega arith) refl
