@@ -4,14 +4,14 @@
 #![tactic(auto)]
 
 // What a check finds: nothing, or the first fault as number, place and second place.
-#[derive(Drop)]
+#[derive(Clone, Copy)]
 pub enum Outcome {
     Clean,
     Fault(u16, u16, u16),
 }
 
 // The three numbers that a caller gets.
-#[derive(Drop)]
+#[derive(Clone, Copy)]
 pub struct Answer {
     pub number: u16,
     pub place: u16,
@@ -19,7 +19,7 @@ pub struct Answer {
 }
 
 // A value as a table holds it: one of the three, a string by offset and length in the table, a signed int, a hex.
-#[derive(Drop)]
+#[derive(Clone, Copy)]
 pub enum Value {
     Three(u8),
     Text(usize, usize),
@@ -28,14 +28,14 @@ pub enum Value {
 }
 
 // A table's entry as it is read: a value, or refused.
-#[derive(Drop)]
+#[derive(Clone, Copy)]
 pub enum Entry {
     Found(Value),
     Refused,
 }
 
 // Where a walk of a clearance's tree stands: at the offset where it goes on, or stopped at a malformed or an unclosed node.
-#[derive(Drop)]
+#[derive(Clone, Copy)]
 pub enum Walked {
     Next(usize),
     Malformed(usize),
@@ -44,7 +44,7 @@ pub enum Walked {
 
 // What stands at an offset of a clearance: a leaf by rule and place, a split on a symbol into two branches or three, each
 // with the offset behind it; or nothing that may stand there.
-#[derive(Drop)]
+#[derive(Clone, Copy)]
 pub enum Head {
     Bad,
     Leaf(u8, usize, usize),

@@ -212,7 +212,7 @@ fn is_free(m: &[u8], i: usize) -> bool
 }
 
 // What an equality asks of a leaf: it is a string, int or hex symbol, has one of the values of a set, or is a text or a number.
-#[derive(Drop)]
+#[derive(Clone, Copy)]
 enum Side {
     Free,
     Three(u8),

@@ -11,7 +11,7 @@ ghost use Rattle.spell.specs.Leaves.{spelled_leaf, leaf_of_value};
 use meaning::Value;
 
 // A leaf as it was read: one of the three values, a text in the book, a text in the table, an int, a hex.
-#[derive(Drop)]
+#[derive(Clone, Copy)]
 pub enum Leaf {
     Three(u8),
     Note(usize, usize),
@@ -33,7 +33,7 @@ fn digit_of(d: u32) -> u8
 }
 
 // A number's spelling: the bytes from at on.
-#[derive(Drop)]
+#[derive(Clone, Copy)]
 pub struct Spelling {
     pub bytes: [u8; 14],
     pub at: usize,

@@ -2,10 +2,11 @@
 //
 // They stand in that order as 0, 1, 2. Each operation is total: a number above 2 in `v` does no harm.
 #![tactic(auto)]
+
 ghost use Rattle.std.specs.Prelude.{◌≡◌};
 ghost use Rattle.tri.specs.Three.{tri_of, not_of, and_of, or_of};
 
-#[derive(Drop)]
+#[derive(Clone, Copy)]
 pub struct Tri {
     pub v: u8,
 }

@@ -41,23 +41,23 @@ loop-e-preserved c = let given = c.args in
     let name = name-from.result.now in
     let is_key = key.ensures ∙ ap (key_of given.factor) name-from.ensures.0 in
     elim c.if-maybe.branch [
-      then-maybe+else-left-eq0 w ↦ let seen = w.seen-j in
-    let lower = w.lower-first in
-    let begins = headed_at given.factor m base given.heads.now given.k name pre.7 key.ensures w.link.ensures.0 w.wide-from.ensures.0 in
-    rw (w.first-is, w.left-is) (
-      omega arith,
-      first_more m base given.k loop.first loop.e lower.result loop.invariant.1 name-from.ensures.0 (omega arith) (omega (arith, lower.ensures))
-          (λ j l. none_before m base given.factor given.k seen.result name begins pre.10 (seen.ensures.3 (omega arith)) seen.ensures.0 seen.ensures.1 j (omega (arith, lower.ensures)) (omega (arith, lower.ensures, loop.invariant.1.0)))
-          (λ l. let q : lower.result ≡ seen.result = omega (arith, lower.ensures, l) in rw q (seen.ensures.0 (omega (arith, q, l, loop.invariant.1.0, pre.5))).1),
-      λ l. omega (arith, loop.invariant.2 l, w.if-left-eq0.false),
-    )
-    | else-maybe w ↦ rw (w.first-is, w.left-is) (
-      omega arith,
-      first_more m base given.k loop.first loop.e loop.first loop.invariant.1 name-from.ensures.0 (omega arith) (omega arith)
-          (λ j l z. unmarked given.factor m base given.marks.now given.k loop.e pre.9 is_key (c.maybe.ensures w.if-maybe.false) j (omega (arith, loop.invariant.1.0)) (sym name-from.ensures.0 ∙ z))
-          (λ l. absurd (omega arith)),
-      λ l. omega (arith, loop.invariant.2 l),
-    )
+      | then-maybe+else-left-eq0 w ↦ let seen = w.seen-j in
+          let lower = w.lower-first in
+          let begins = headed_at given.factor m base given.heads.now given.k name pre.7 key.ensures w.link.ensures.0 w.wide-from.ensures.0 in
+          rw (w.first-is, w.left-is) (
+            omega arith,
+            first_more m base given.k loop.first loop.e lower.result loop.invariant.1 name-from.ensures.0 (omega arith) (omega (arith, lower.ensures))
+                (λ j l. none_before m base given.factor given.k seen.result name begins pre.10 (seen.ensures.3 (omega arith)) seen.ensures.0 seen.ensures.1 j (omega (arith, lower.ensures)) (omega (arith, lower.ensures, loop.invariant.1.0)))
+                (λ l. let q : lower.result ≡ seen.result = omega (arith, lower.ensures, l) in rw q (seen.ensures.0 (omega (arith, q, l, loop.invariant.1.0, pre.5))).1),
+            λ l. omega (arith, loop.invariant.2 l, w.if-left-eq0.false),
+          )
+      | else-maybe w ↦ rw (w.first-is, w.left-is) (
+        omega arith,
+        first_more m base given.k loop.first loop.e loop.first loop.invariant.1 name-from.ensures.0 (omega arith) (omega arith)
+            (λ j l z. unmarked given.factor m base given.marks.now given.k loop.e pre.9 is_key (c.maybe.ensures w.if-maybe.false) j (omega (arith, loop.invariant.1.0)) (sym name-from.ensures.0 ∙ z))
+            (λ l. absurd (omega arith)),
+        λ l. omega (arith, loop.invariant.2 l),
+      )
     ]
 
 pub returns : goal.returns

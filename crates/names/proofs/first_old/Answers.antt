@@ -10,6 +10,6 @@ returns-then-r-n c = (c.if-r-n.true, (c.fresh-r.ensures.0 c.if-r-n.true).0, (c.f
 pub loop-c-preserved : goal.loop-c-preserved
 loop-c-preserved c =
     elim c.if-c-lt-LAST_TRY.branch [
-      then-c-lt-LAST_TRY w ↦ omega (arith, w.if-c-lt-LAST_TRY.true)
-    | else-c-lt-LAST_TRY w ↦ absurd (omega (arith, c.if-r-n.false, c.fresh-r.ensures.1 (omega (arith, w.most-is))))
+      | then-c-lt-LAST_TRY w ↦ omega (arith, w.if-c-lt-LAST_TRY.true)
+      | else-c-lt-LAST_TRY w ↦ absurd (omega (arith, c.if-r-n.false, c.fresh-r.ensures.1 (omega (arith, w.most-is))))
     ]
