@@ -4,10 +4,13 @@
 // A case is seven u32, little-endian: kind (0 table check, 1 finding check, 2 name), then the lengths of name, model, second, node work and
 // symbol work, and the index asked for; then those bytes.
 #![tactic(auto)]
-ghost use Rattle.std.specs.Prelude.{◌≡◌, length, ◌≤◌};
 
-use libc::STDOUT_FILENO;
+ghost use Rattle.std.specs.Prelude.{◌≡◌, length, ◌≤◌};
+ghost use Rattle.std.specs.Io.{ReadsAtMost};
+
 use meaning::Outcome;
+use std::io;
+use std::io::{BufWriter, Read, Write};
 
 // Room for a slice that is longer than any book.
 fn room() -> [u8; 131072]
@@ -16,72 +19,94 @@ fn room() -> [u8; 131072]
     [0; 131072]
 }
 
+// Reads until the room is full or the input ends, and answers how many bytes came.
+fn read_full<R: Read>(from: &mut R, room: &mut [u8]) -> io::Result<usize>
+    ensures { ReadsAtMost result room.new }
+{
+    let mut got = 0;
+    while got < room.len() {
+        let n = from.read(&mut room[got..])?;
+        if n == 0 {
+            break;
+        }
+        got += n;
+    }
+    Ok(got)
+}
+
 // A number and a space.
-fn number(n: u64) {
-    io::print_decimal(STDOUT_FILENO, n);
-    io::write_all(STDOUT_FILENO, b" ");
+fn number<W: Write>(to: &mut W, n: u64) -> io::Result<()> {
+    write!(to, "{n} ")
 }
 
 // Each byte as two hex digits.
-fn bytes(s: &[u8]) {
-    let mut i: usize = 0;
-    while i < s.len() {
-        io::print_hex(STDOUT_FILENO, raw::wide(s[i]) as u64, 2);
-        i += 1;
+fn bytes<W: Write>(to: &mut W, s: &[u8]) -> io::Result<()> {
+    for x in s {
+        write!(to, "{x:02x}")?;
     }
+    Ok(())
 }
 
 // The three numbers that an outcome is answered with.
-fn numbers(o: Outcome) {
+fn numbers<W: Write>(to: &mut W, o: Outcome) -> io::Result<()> {
     match o {
         Outcome::Clean => {
-            number(0);
-            number(65535);
-            number(65535);
+            number(to, 0)?;
+            number(to, 65535)?;
+            number(to, 65535)
         }
         Outcome::Fault(n, p, s) => {
-            number(n as u64);
-            number(p as u64);
-            number(s as u64);
+            number(to, n as u64)?;
+            number(to, p as u64)?;
+            number(to, s as u64)
         }
     }
 }
 
 // The answer of the table check, and the node work afterwards.
-fn table_case(model: &[u8], table: &[u8], work: &mut [u8]) {
+fn table_case<W: Write>(to: &mut W, model: &[u8], table: &[u8], work: &mut [u8]) -> io::Result<()> {
     let o = rules::check(model, table, work);
-    numbers(o);
-    bytes(work);
-    io::write_all(STDOUT_FILENO, b"/");
+    numbers(to, o)?;
+    bytes(to, work)?;
+    to.write_all(b"/")
 }
 
 // The answer of the finding check, and both rooms afterwards.
-fn finding_case(model: &[u8], finding: &[u8], work: &mut [u8], marks: &mut [u8]) {
+fn finding_case<W: Write>(
+    to: &mut W,
+    model: &[u8],
+    finding: &[u8],
+    work: &mut [u8],
+    marks: &mut [u8],
+) -> io::Result<()> {
     let o = findings::check(model, finding, work, marks);
-    numbers(o);
-    bytes(work);
-    io::write_all(STDOUT_FILENO, b"/");
-    bytes(marks);
+    numbers(to, o)?;
+    bytes(to, work)?;
+    to.write_all(b"/")?;
+    bytes(to, marks)
 }
 
 // What a case of this kind answers.
-fn run_case(
+fn run_case<W: Write>(
+    to: &mut W,
     kind: u32,
     index: usize,
     model: &[u8],
     second: &[u8],
     work: &mut [u8],
     marks: &mut [u8],
-) {
+) -> io::Result<()> {
     match kind {
-        0 => table_case(model, second, work),
-        1 => finding_case(model, second, work, marks),
-        _ => bytes(book::name(model, index)),
+        0 => table_case(to, model, second, work),
+        1 => finding_case(to, model, second, work, marks),
+        _ => bytes(to, book::name(model, index)),
     }
 }
 
 // Reads the bytes of one case and runs it.
-fn case_of(
+fn case_of<R: Read, W: Write>(
+    from: &mut R,
+    to: &mut W,
     kind: u32,
     index: usize,
     name: &mut [u8],
@@ -89,16 +114,16 @@ fn case_of(
     second: &mut [u8],
     work: &mut [u8],
     marks: &mut [u8],
-) {
-    io::read_full(0, name);
-    io::read_full(0, model);
-    io::read_full(0, second);
-    io::read_full(0, work);
-    io::read_full(0, marks);
-    io::write_all(STDOUT_FILENO, name);
-    io::write_all(STDOUT_FILENO, b" ");
-    run_case(kind, index, model, second, work, marks);
-    io::write_all(STDOUT_FILENO, b"\n");
+) -> io::Result<()> {
+    read_full(from, name)?;
+    read_full(from, model)?;
+    read_full(from, second)?;
+    read_full(from, work)?;
+    read_full(from, marks)?;
+    to.write_all(name)?;
+    to.write_all(b" ")?;
+    run_case(to, kind, index, model, second, work, marks)?;
+    to.write_all(b"\n")
 }
 
 // A length of the head, as far as there is room for it.
@@ -110,11 +135,11 @@ fn size(head: &[u8], i: usize) -> usize
 }
 
 // Reads one case, runs it, and answers whether there was one. Each buffer is lent once.
-fn one_case() -> bool {
+fn one_case<R: Read, W: Write>(from: &mut R, to: &mut W) -> io::Result<bool> {
     let mut head = [0u8; 28];
-    let got = io::read_full(0, &mut head);
+    let got = read_full(from, &mut head)?;
     if got < 28 {
-        return false;
+        return Ok(false);
     }
     let kind = raw::word(&head, 0);
     let n = size(&head, 4);
@@ -129,6 +154,8 @@ fn one_case() -> bool {
     let mut work = room();
     let mut marks = room();
     case_of(
+        from,
+        to,
         kind,
         index,
         &mut name[0..n],
@@ -136,14 +163,18 @@ fn one_case() -> bool {
         &mut second[0..t],
         &mut work[0..w],
         &mut marks[0..z],
-    );
-    true
+    )?;
+    Ok(true)
 }
 
 // Runs a million cases at most.
-fn main() {
-    let mut turns: u64 = 1000000;
-    while turns > 0 && one_case() {
-        turns -= 1;
+fn main(rt: HostRuntime) -> io::Result<()> {
+    let mut from = rt.reader();
+    let mut to = BufWriter::new(rt.alloc(), io::writer(&rt))?;
+    for _ in 0..1000000 {
+        if !one_case(&mut from, &mut to)? {
+            break;
+        }
     }
+    to.flush()
 }
