@@ -6,7 +6,6 @@ use Rattle.meaning.specs.Spell.{spelled}
 use Rattle.spell.specs.declared.Leaf.{Leaf}
 use Rattle.spell.specs.declared.Leaf.TheVariants.{Three, Note, Text, Int, Hex}
 use Rattle.meaning.specs.declared.Value.{Value}
-use Rattle.meaning.specs.declared.Value.TheVariants as Value
 
 -- a note stands in the book m, a text in the table t
 abbrev pub leaf_content : List ℕ → List ℕ → Leaf → Content

@@ -24,9 +24,9 @@ bounds-low-i-then-i-lt96 c = omega arith
 
 pub loop-k-preserved : goal.loop-k-preserved
 loop-k-preserved c = elim c.if-i-lt96.branch [
-      then-i-lt96 w ↦ (omega arith, rw w.low-is (simp length-set c.loop-k.invariant.1), rw w.low-is (rows_more (lower_step c.args.m.now (given c.args.m.now c.args.t.now c.args.vs.now)) c.args.base c.loop-k.low c.loop-k.k (λ x. or_of x (given c.args.m.now c.args.t.now c.args.vs.now c.loop-k.k)) (lower_step_lem c.args.m.now (given c.args.m.now c.args.t.now c.args.vs.now) c.loop-k.k c.target_from.ensures.0) c.target_from.ensures.1 (omega arith) c.place-i.ensures c.loop-k.invariant.2 w.raised.ensures c.loop-k.invariant.1))
-    | else-i-lt96 w ↦ (omega arith, rw w.low-is c.loop-k.invariant.1, rw w.low-is (rows_same (lower_step c.args.m.now (given c.args.m.now c.args.t.now c.args.vs.now)) c.args.base c.loop-k.low c.loop-k.k (λ x. or_of x (given c.args.m.now c.args.t.now c.args.vs.now c.loop-k.k)) (lower_step_lem c.args.m.now (given c.args.m.now c.args.t.now c.args.vs.now) c.loop-k.k c.target_from.ensures.0) c.target_from.ensures.1 (omega arith) c.place-i.ensures c.loop-k.invariant.2 w.if-i-lt96.false))
-    ]
+  | then-i-lt96 w ↦ (omega arith, rw w.low-is (simp length-set c.loop-k.invariant.1), rw w.low-is (rows_more (lower_step c.args.m.now (given c.args.m.now c.args.t.now c.args.vs.now)) c.args.base c.loop-k.low c.loop-k.k (λ x. or_of x (given c.args.m.now c.args.t.now c.args.vs.now c.loop-k.k)) (lower_step_lem c.args.m.now (given c.args.m.now c.args.t.now c.args.vs.now) c.loop-k.k c.target_from.ensures.0) c.target_from.ensures.1 (omega arith) c.place-i.ensures c.loop-k.invariant.2 w.raised.ensures c.loop-k.invariant.1))
+  | else-i-lt96 w ↦ (omega arith, rw w.low-is c.loop-k.invariant.1, rw w.low-is (rows_same (lower_step c.args.m.now (given c.args.m.now c.args.t.now c.args.vs.now)) c.args.base c.loop-k.low c.loop-k.k (λ x. or_of x (given c.args.m.now c.args.t.now c.args.vs.now c.loop-k.k)) (lower_step_lem c.args.m.now (given c.args.m.now c.args.t.now c.args.vs.now) c.loop-k.k c.target_from.ensures.0) c.target_from.ensures.1 (omega arith) c.place-i.ensures c.loop-k.invariant.2 w.if-i-lt96.false))
+]
 
 pub loop-j-init : goal.loop-j-init
 loop-j-init c = (omega arith, refl, rows_none (default_step c.args.m.now (condition_value c.args.m.now c.args.vs.now) suc) c.args.base)
@@ -39,9 +39,9 @@ bounds-first-i-then-i-lt96-2 c = omega arith
 
 pub loop-j-preserved : goal.loop-j-preserved
 loop-j-preserved c = elim c.if-i-lt96-2.branch [
-      then-i-lt96-2 w ↦ (omega arith, rw w.first-is (simp length-set c.loop-j.invariant.1), rw w.first-is (rows_more (default_step c.args.m.now (condition_value c.args.m.now c.args.vs.now) suc) c.args.base c.loop-j.first c.loop-j.j (λ x. pick (ltb 0 (condition_value c.args.m.now c.args.vs.now (c.defaults-defaults.result - 1 - c.loop-j.j))) ((c.defaults-defaults.result - 1 - c.loop-j.j) + 1) x) (first_step c.args.m.now c.args.vs.now c.loop-j.j c.defaults-defaults.ensures.0 refl c.default_symbol_from.ensures.0) c.default_symbol_from.ensures.1 (omega arith) c.place-i-in-loop-j.ensures c.loop-j.invariant.2 w.covered.ensures c.loop-j.invariant.1))
-    | else-i-lt96-2 w ↦ (omega arith, rw w.first-is c.loop-j.invariant.1, rw w.first-is (rows_same (default_step c.args.m.now (condition_value c.args.m.now c.args.vs.now) suc) c.args.base c.loop-j.first c.loop-j.j (λ x. pick (ltb 0 (condition_value c.args.m.now c.args.vs.now (c.defaults-defaults.result - 1 - c.loop-j.j))) ((c.defaults-defaults.result - 1 - c.loop-j.j) + 1) x) (first_step c.args.m.now c.args.vs.now c.loop-j.j c.defaults-defaults.ensures.0 refl c.default_symbol_from.ensures.0) c.default_symbol_from.ensures.1 (omega arith) c.place-i-in-loop-j.ensures c.loop-j.invariant.2 w.if-i-lt96-2.false))
-    ]
+  | then-i-lt96-2 w ↦ (omega arith, rw w.first-is (simp length-set c.loop-j.invariant.1), rw w.first-is (rows_more (default_step c.args.m.now (condition_value c.args.m.now c.args.vs.now) suc) c.args.base c.loop-j.first c.loop-j.j (λ x. pick (ltb 0 (condition_value c.args.m.now c.args.vs.now (c.defaults-defaults.result - 1 - c.loop-j.j))) ((c.defaults-defaults.result - 1 - c.loop-j.j) + 1) x) (first_step c.args.m.now c.args.vs.now c.loop-j.j c.defaults-defaults.ensures.0 refl c.default_symbol_from.ensures.0) c.default_symbol_from.ensures.1 (omega arith) c.place-i-in-loop-j.ensures c.loop-j.invariant.2 w.covered.ensures c.loop-j.invariant.1))
+  | else-i-lt96-2 w ↦ (omega arith, rw w.first-is c.loop-j.invariant.1, rw w.first-is (rows_same (default_step c.args.m.now (condition_value c.args.m.now c.args.vs.now) suc) c.args.base c.loop-j.first c.loop-j.j (λ x. pick (ltb 0 (condition_value c.args.m.now c.args.vs.now (c.defaults-defaults.result - 1 - c.loop-j.j))) ((c.defaults-defaults.result - 1 - c.loop-j.j) + 1) x) (first_step c.args.m.now c.args.vs.now c.loop-j.j c.defaults-defaults.ensures.0 refl c.default_symbol_from.ensures.0) c.default_symbol_from.ensures.1 (omega arith) c.place-i-in-loop-j.ensures c.loop-j.invariant.2 w.if-i-lt96-2.false))
+]
 
 pub loop-s-init : goal.loop-s-init
 loop-s-init c = (omega arith, omega arith, c.requires.3)

@@ -3,7 +3,7 @@ use mathlib.Core.Path.{sym, ◌∙◌}
 use native.Mathlib.Omega.{arith}
 use Rattle.blocks.specs.Rows.{own_fault}
 use Rattle.meaning.proofs.First.{clean_none, block_fault}
-use Prim.Native.Nat.{◌+◌, ◌-◌}
+use Prim.Native.Nat.{◌+◌}
 use Rattle.blocks.proofs.own_faults.Goals as goal
 
 pub loop-base-init : goal.loop-base-init

@@ -3,7 +3,6 @@ use Rattle.meaning.proofs.First.{first_fault, first_clean, clean_none, clean_mor
 use Rattle.meaning.specs.Book.{chain_fault, end_fault}
 use native.Mathlib.Omega.{arith}
 use mathlib.Core.Path.{◌≡◌, refl}
-use Prim.Native.Nat.{◌-◌}
 use Rattle.book.proofs.chain_fault.Goals as goal
 
 pub loop-k-init : goal.loop-k-init

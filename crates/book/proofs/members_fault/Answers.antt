@@ -2,7 +2,6 @@
 use Rattle.meaning.specs.Book.{members_fault}
 use Rattle.meaning.specs.Base.{first_below}
 use native.Mathlib.Omega.{arith}
-use Prim.Native.Nat.{◌-◌}
 use Rattle.meaning.proofs.First.{clean_none, clean_more, place_fault}
 use Rattle.meaning.proofs.Folds.{at_end}
 use Rattle.book.proofs.Laws.{due_none, due_more}

@@ -1,7 +1,6 @@
 -- `book::name` meets its contract: nothing for a bad book and for no symbol, else the part that spells the name.
 use native.Mathlib.Omega.{arith}
 use Rattle.book.proofs.Laws.{name_bad, name_past, name_is}
-use Rattle.meaning.specs.Base.{part}
 use Rattle.book.proofs.name.Goals as goal
 
 pub returns-in-Fault : goal.returns-in-Fault

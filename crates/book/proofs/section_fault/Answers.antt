@@ -2,7 +2,6 @@
 use Rattle.meaning.proofs.First.{clean_none, clean_more, place_fault}
 use Rattle.meaning.specs.Book.{section_fault}
 use Rattle.meaning.specs.Base.{first_below}
-use Prim.Native.Nat.{◌-◌}
 use native.Mathlib.Omega.{arith}
 use Rattle.meaning.proofs.Folds.{at_end}
 use Rattle.book.proofs.section_fault.Goals as goal

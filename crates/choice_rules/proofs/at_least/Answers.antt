@@ -1,6 +1,6 @@
 -- `choice_rules::at_least` meets its contract: it counts the members so far.
 use lib.Dec.{leb}
-use Prim.Native.Nat.{◌-◌, ◌+◌}
+use Prim.Native.Nat.{◌+◌}
 use native.Mathlib.Omega.{arith}
 use mathlib.Core.Path.{◌≡◌}
 use Rattle.meaning.proofs.Below.{count_none, count_more, count_bound}

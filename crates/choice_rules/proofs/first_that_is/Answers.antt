@@ -1,6 +1,5 @@
 -- `choice_rules::first_that_is` meets its contract: it goes on while no member so far passes, and stops at the first that does.
 use lib.Dec.{eqb}
-use Prim.Native.Nat.{◌-◌}
 use native.Mathlib.Omega.{arith}
 use mathlib.Core.Path.{◌≡◌, ◌∙◌}
 use Rattle.meaning.specs.Base.{first_where}

@@ -1,6 +1,6 @@
 -- `choice_rules::ms` meets its contract: it counts the members so far.
 use lib.Dec.{eqb}
-use Prim.Native.Nat.{◌-◌, ◌+◌}
+use Prim.Native.Nat.{◌+◌}
 use native.Mathlib.Omega.{arith}
 use mathlib.Core.Path.{◌≡◌}
 use Rattle.meaning.proofs.Below.{count_none, count_more, count_bound}

@@ -1,7 +1,7 @@
 -- `closing::at_least` meets its contract: it counts the members so far.
 use Rattle.meaning.specs.Rules.{at_least}
 use Rattle.meaning.proofs.Below.{count_none, count_more, count_bound}
-use Prim.Native.Nat.{◌-◌, ◌+◌}
+use Prim.Native.Nat.{◌+◌}
 use lib.Dec.{leb}
 use native.Mathlib.Omega.{arith}
 use mathlib.Core.Path.{◌≡◌}

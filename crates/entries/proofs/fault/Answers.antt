@@ -1,7 +1,6 @@
 -- `entries::fault` meets its contract: the contents, each entry in turn, and the end of the bodies.
 use native.Mathlib.Omega.{arith}
 use mathlib.Core.Path.{◌≡◌, refl}
-use Prim.Native.Nat.{◌-◌}
 use Rattle.meaning.proofs.First.{clean_none, clean_more, place_fault, first_fault, first_clean}
 use Rattle.meaning.specs.Table.{table_fault}
 use Rattle.entries.proofs.fault.Goals as goal

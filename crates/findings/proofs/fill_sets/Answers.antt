@@ -3,7 +3,6 @@ use Rattle.meaning.specs.Sets.{full, full_sets}
 use Rattle.meaning.specs.Book.{type_of}
 use Rattle.meaning.proofs.Folds.{laid_none, laid_more, laid_all}
 use lib.ListN.{length-set}
-use Prim.Native.Nat.{◌-◌}
 use native.Mathlib.Omega.{arith}
 use mathlib.Core.Path.{refl, ◌∙◌, ap}
 use Rattle.findings.proofs.fill_sets.Goals as goal

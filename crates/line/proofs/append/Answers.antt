@@ -1,7 +1,6 @@
 -- `line::append` meets its contract: each turn copies one byte more.
 use mathlib.Core.Path.{refl}
 use native.Mathlib.Omega.{arith}
-use Prim.Native.Nat.{◌-◌}
 use lib.Seq.{paste-zero}
 use Rattle.line.proofs.Laws.{copied, copied_more}
 use Rattle.line.proofs.append.Goals as goal

@@ -1,5 +1,4 @@
 -- `members::first_old` meets its contract: among the symbols below the block it has the first, and each block's pass goes up to that.
-use Prim.Native.Nat.{◌-◌}
 use mathlib.Core.Path.{◌≡◌}
 use Rattle.meaning.specs.Book.{symbols}
 use native.Mathlib.Omega.{arith}

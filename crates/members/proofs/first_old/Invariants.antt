@@ -1,6 +1,5 @@
 -- `members::first_old` meets its contract: among the symbols below the block it has the first, and each block's pass goes up to that.
 use Prim.Native.Nat.{◌<◌, ◌≤◌, ◌-◌}
-use Rattle.meaning.specs.Book.{symbols}
 use Rattle.members.specs.Old.{FirstOldIn}
 use Rattle.members.proofs.first_old.Given as goal
 

@@ -1,8 +1,6 @@
 -- `members::first_old_in` meets its contract: an unmarked symbol stands in no record so far, and the pass stops where a marked one is met again.
 use mathlib.Core.Path.{refl}
-use mathlib.Core.Logic.{⊎_elim}
 use lib.ListN.{length-set, replicate, get_or-replicate}
-use Prim.Native.Nat.{◌-◌}
 use native.Mathlib.Omega.{arith}
 use Rattle.members.proofs.Laws.{none_met, none_old, turn_met, turn_out, turn_twice}
 use Rattle.members.proofs.first_old_in.Goals as goal
@@ -35,8 +33,8 @@ loop-i-preserved c =
     let loop = c.loop-i in
     let member-symbol-from = c.member_symbol_from in
     elim c.if-k-width.branch [
-      then-k-width+else-met-k-ne0 w ↦ let t = turn_met given.m.now given.base given.width loop.met loop.i member-symbol-from.ensures.0 c.place-k.ensures pre.1 loop.invariant.2 loop.invariant.3 w.if-k-width.true w.if-met-k-ne0.false loop.invariant.1 in (omega arith, rw w.met-is (simp length-set loop.invariant.1), rw w.met-is t.0, t.1)
-    | else-k-width w ↦ let t = turn_out given.m.now given.base given.width loop.met loop.i member-symbol-from.ensures.0 c.place-k.ensures pre.1 loop.invariant.2 loop.invariant.3 w.if-k-width.false in (omega arith, rw w.met-is loop.invariant.1, rw w.met-is t.0, t.1)
+      | then-k-width+else-met-k-ne0 w ↦ let t = turn_met given.m.now given.base given.width loop.met loop.i member-symbol-from.ensures.0 c.place-k.ensures pre.1 loop.invariant.2 loop.invariant.3 w.if-k-width.true w.if-met-k-ne0.false loop.invariant.1 in (omega arith, rw w.met-is (simp length-set loop.invariant.1), rw w.met-is t.0, t.1)
+      | else-k-width w ↦ let t = turn_out given.m.now given.base given.width loop.met loop.i member-symbol-from.ensures.0 c.place-k.ensures pre.1 loop.invariant.2 loop.invariant.3 w.if-k-width.false in (omega arith, rw w.met-is loop.invariant.1, rw w.met-is t.0, t.1)
     ]
 
 pub returns : goal.returns

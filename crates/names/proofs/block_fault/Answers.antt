@@ -1,7 +1,6 @@
 -- `names::block_fault` meets its contract: it goes on while every symbol is well formed, and stops at the first that is not.
 use Rattle.meaning.proofs.First.{clean_more, place_fault}
 use Rattle.meaning.specs.Base.{first_below}
-use Prim.Native.Nat.{◌-◌}
 use native.Mathlib.Omega.{arith}
 use Rattle.meaning.proofs.Folds.{at_end}
 use Rattle.names.proofs.block_fault.Goals as goal

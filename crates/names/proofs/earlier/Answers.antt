@@ -1,7 +1,6 @@
 -- `names::earlier` meets its contract: at each turn the lowest met so far is the first that a name looked up so far is.
 use mathlib.Core.Path.{◌≡◌, sym, ◌∙◌, ap}
 use native.Mathlib.Omega.{arith}
-use Prim.Native.Nat.{◌-◌}
 use Rattle.names.specs.Keys.{key_of}
 use Rattle.names.proofs.Laws.{headed_at, start_le, walk_from, unmarked, none_before, first_more}
 use Rattle.names.proofs.earlier.Goals as goal

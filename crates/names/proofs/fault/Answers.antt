@@ -1,7 +1,7 @@
 -- `names::fault` meets its contract: what a block answers is the answer if it is a fault, and so is its first name that is not new; the last block ends at the last symbol.
 use mathlib.Core.Path.{◌≡◌, refl, sym, ◌∙◌}
 use native.Mathlib.Omega.{arith}
-use Prim.Native.Nat.{◌-◌, ◌+◌}
+use Prim.Native.Nat.{◌+◌}
 use Rattle.meaning.specs.Book.{record_at, section_fault}
 use Rattle.meaning.specs.Base.{first_below}
 use Rattle.names.proofs.Laws.{old_at}

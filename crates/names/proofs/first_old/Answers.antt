@@ -1,6 +1,5 @@
 -- `names::first_old` meets its contract: a try that ends has the answer, and the last one ends, since no walk is as long as its limit.
 use native.Mathlib.Omega.{arith}
-use Prim.Native.Nat.{◌-◌}
 use Rattle.names.proofs.first_old.Goals as goal
 use Rattle.names.proofs.first_old.Goals.{then-c-lt-LAST_TRY, else-c-lt-LAST_TRY}
 

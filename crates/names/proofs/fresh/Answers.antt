@@ -3,10 +3,9 @@ use mathlib.Core.Path.{◌≡◌, refl, sym, ◌∙◌, ap}
 use mathlib.Core.Logic.{⊎_elim}
 use native.Mathlib.Omega.{arith}
 use native.Mathlib.Nat.{eq-or-lt_of_le}
-use Prim.Native.Nat.{◌+◌, ◌-◌}
+use Prim.Native.Nat.{◌+◌}
 use borrow.Author.Count.{below_none}
 use lib.ListN.{length-set}
-use mathlib.Core.Bool.{false}
 use Rattle.names.proofs.Laws.{no_heads, headed_at, start_le, walk_from, none_of, headed_more, linked_more, marked_more, different_more, name_old, block_new}
 use Rattle.names.specs.Keys.{key_of}
 use Rattle.names.proofs.fresh.Goals as goal

@@ -1,6 +1,5 @@
 -- `raw::same` meets its contract: as far as it went the texts are alike, so they are alike where what is left of them is.
 use native.Mathlib.Omega.{arith}
-use Prim.Native.Nat.{◌-◌}
 use mathlib.Core.Path.{refl, sym}
 use Rattle.raw.proofs.Laws.{lengths_differ, bytes_same, bytes_differ, bytes_end}
 use Rattle.raw.proofs.same.Goals as goal

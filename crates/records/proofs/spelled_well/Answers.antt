@@ -1,7 +1,6 @@
 -- `records::spelled_well` meets its contract: after each turn both tests are known of the bytes so far.
 use mathlib.Core.Path.{◌≡◌, refl, sym}
 use native.Mathlib.Omega.{arith}
-use Prim.Native.Nat.{◌-◌}
 use lib.ListN.{length, get_or}
 use Rattle.meaning.specs.Book.{is_digit, is_name_byte}
 use Rattle.meaning.proofs.Below.{all_none}

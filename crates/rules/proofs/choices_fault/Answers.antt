@@ -1,6 +1,5 @@
 -- `rules::choices_fault` meets its contract: it goes on while every choice keeps its rules, and stops at the first that does not.
 use native.Mathlib.Omega.{arith}
-use Prim.Native.Nat.{◌-◌}
 use Rattle.meaning.specs.Base.{first_below}
 use Rattle.meaning.proofs.First.{clean_none, clean_more, place_fault}
 use Rattle.meaning.proofs.Folds.{at_end}

@@ -1,6 +1,5 @@
 -- `rules::modules_fault` meets its contract: it goes on while no symbol is m without modules, and stops at the first that is.
 use native.Mathlib.Omega.{arith}
-use Prim.Native.Nat.{◌-◌}
 use Rattle.meaning.specs.Base.{first_below}
 use Rattle.meaning.proofs.First.{clean_none, clean_more, place_fault}
 use Rattle.meaning.proofs.Folds.{at_end}

@@ -1,7 +1,6 @@
 -- `sets::all` meets its contract: one node more is worked out at each turn.
 use mathlib.Core.Path.{◌≡◌, refl, sym, ◌∙◌}
 use native.Mathlib.Omega.{arith}
-use Prim.Native.Nat.{◌-◌}
 use borrow.Author.Count.{below_none}
 use Rattle.sets.proofs.all.Goals as goal
 

@@ -1,7 +1,6 @@
 -- `sets::blank` meets its contract: one node more is laid out at each turn.
 use mathlib.Core.Path.{refl}
 use native.Mathlib.Omega.{arith}
-use Prim.Native.Nat.{◌-◌}
 use lib.ListN.{length-set}
 use Rattle.meaning.proofs.Folds.{laid_none, laid_more, laid_all}
 use Rattle.sets.specs.Work.{blank_at, blank_of}

@@ -1,7 +1,6 @@
 -- `sets::clear` meets its contract: one byte more is zero at each turn.
 use Rattle.sets.proofs.Laws.{cleared_none, cleared_more}
 use lib.ListN.{length-set}
-use Prim.Native.Nat.{◌-◌}
 use native.Mathlib.Omega.{arith}
 use mathlib.Core.Path.{◌≡◌, refl}
 use Rattle.sets.proofs.clear.Goals as goal

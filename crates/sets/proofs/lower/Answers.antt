@@ -2,7 +2,6 @@
 use native.Mathlib.Omega.{arith}
 use mathlib.Core.Path.{◌≡◌, refl, sym, ◌∙◌}
 use Rattle.meaning.specs.Sets.{lower_set}
-use Prim.Native.Nat.{◌-◌}
 use Rattle.meaning.proofs.Folds.{fold_none, fold_more}
 use Rattle.sets.proofs.lower.Goals as goal
 

@@ -1,7 +1,6 @@
 -- `sets::pairs` meets its contract: each turn adds what one pair makes.
 use Rattle.sets.specs.Work.{applied}
 use Rattle.sets.proofs.Laws.{cell_with, cell_skip, rows_none, row_none, rows_with, rows_skip, rows_all}
-use Prim.Native.Nat.{◌-◌}
 use native.Mathlib.Omega.{arith}
 use mathlib.Core.Path.{◌∙◌}
 use Rattle.sets.proofs.pairs.Goals as goal
@@ -15,15 +14,15 @@ loop-y-init c = (omega arith, row_none (applied c.args.op) c.args.a c.args.b c.l
 
 pub loop-y-preserved : goal.loop-y-preserved
 loop-y-preserved c = elim c.if-has-2.branch [
-      then-has-2 w ↦ (omega arith, cell_with (applied c.args.op) c.args.a c.args.b c.loop-x.x c.loop-x.out c.loop-y.y c.loop-y.invariant.1 c.has-in-loop-y.ensures w.if-has-2.true w.apply.ensures (w.out-is ∙ w.with-out.ensures.0), rw w.out-is w.with-out.ensures.1)
-    | else-has-2 w ↦ (omega arith, cell_skip (applied c.args.op) c.args.a c.args.b c.loop-x.x c.loop-x.out c.loop-y.y c.loop-y.invariant.1 c.has-in-loop-y.ensures w.if-has-2.false w.out-is, rw w.out-is c.loop-y.invariant.2)
-    ]
+  | then-has-2 w ↦ (omega arith, cell_with (applied c.args.op) c.args.a c.args.b c.loop-x.x c.loop-x.out c.loop-y.y c.loop-y.invariant.1 c.has-in-loop-y.ensures w.if-has-2.true w.apply.ensures (w.out-is ∙ w.with-out.ensures.0), rw w.out-is w.with-out.ensures.1)
+  | else-has-2 w ↦ (omega arith, cell_skip (applied c.args.op) c.args.a c.args.b c.loop-x.x c.loop-x.out c.loop-y.y c.loop-y.invariant.1 c.has-in-loop-y.ensures w.if-has-2.false w.out-is, rw w.out-is c.loop-y.invariant.2)
+]
 
 pub loop-x-preserved : goal.loop-x-preserved
 loop-x-preserved c = elim c.if-has.branch [
-      then-has+else-loop-y-test w ↦ (omega arith, rows_with (applied c.args.op) c.args.a c.args.b c.loop-x.x c.loop-x.invariant.1 c.has.ensures w.if-has.true (omega arith) (w.out-is ∙ w.loop-y.invariant.1), rw w.out-is w.loop-y.invariant.2)
-    | else-has w ↦ (omega arith, rows_skip (applied c.args.op) c.args.a c.args.b c.loop-x.x c.loop-x.invariant.1 c.has.ensures w.if-has.false w.out-is, rw w.out-is c.loop-x.invariant.2)
-    ]
+  | then-has+else-loop-y-test w ↦ (omega arith, rows_with (applied c.args.op) c.args.a c.args.b c.loop-x.x c.loop-x.invariant.1 c.has.ensures w.if-has.true (omega arith) (w.out-is ∙ w.loop-y.invariant.1), rw w.out-is w.loop-y.invariant.2)
+  | else-has w ↦ (omega arith, rows_skip (applied c.args.op) c.args.a c.args.b c.loop-x.x c.loop-x.invariant.1 c.has.ensures w.if-has.false w.out-is, rw w.out-is c.loop-x.invariant.2)
+]
 
 pub returns : goal.returns
 returns c = (rows_all (applied c.args.op) c.args.a c.args.b c.loop-x.invariant.1 (omega arith), c.loop-x.invariant.2)

@@ -1,7 +1,6 @@
 -- `sets::settle` meets its contract: one byte more is taken back at each turn.
 use mathlib.Core.Path.{refl}
 use native.Mathlib.Omega.{arith}
-use Prim.Native.Nat.{◌-◌}
 use lib.ListN.{length-set}
 use Rattle.sets.proofs.Nodes.{settled_none, settled_more}
 use Rattle.sets.proofs.settle.Goals as goal

@@ -4,7 +4,6 @@ use native.Mathlib.Nat.{mod-lt}
 use native.Mathlib.Omega.{arith}
 use mathlib.Core.Path.{refl}
 use lib.ListN.{length-set}
-use Prim.Native.Nat.{◌-◌}
 use Rattle.spell.proofs.spell.Goals as goal
 
 pub loop-at-init : goal.loop-at-init

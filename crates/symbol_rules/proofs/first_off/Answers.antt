@@ -1,7 +1,6 @@
 -- `symbol_rules::first_off` meets its contract: below the symbol found so far every range so far is kept, and one is broken at it.
 use Rattle.symbol_rules.proofs.Laws.{kept_more, broken_more}
 use native.Mathlib.Omega.{arith}
-use Prim.Native.Nat.{◌-◌}
 use mathlib.Core.Path.{◌≡◌}
 use Rattle.symbol_rules.proofs.first_off.Goals as goal
 

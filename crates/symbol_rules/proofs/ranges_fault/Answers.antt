@@ -1,7 +1,6 @@
 -- `symbol_rules::ranges_fault` meets its contract: it goes on while every range is kept, and stops at the first that is not.
 use Rattle.meaning.specs.Base.{first_below}
 use native.Mathlib.Omega.{arith}
-use Prim.Native.Nat.{◌-◌}
 use Rattle.meaning.proofs.First.{clean_none, clean_more, place_fault}
 use Rattle.meaning.proofs.Folds.{at_end}
 use Rattle.symbol_rules.proofs.ranges_fault.Goals as goal

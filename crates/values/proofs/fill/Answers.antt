@@ -1,7 +1,6 @@
 -- `values::fill` meets its contract: what is built so far stands in front, and the next value is read from that front alone.
 use lib.Seq.{length-take-le}
 use lib.ListN.{length-set}
-use Prim.Native.Nat.{◌-◌}
 use native.Mathlib.Omega.{arith}
 use mathlib.Core.Path.{◌≡◌, refl, sym}
 use Rattle.meaning.proofs.Folds.{build_none, build_more}

@@ -1,5 +1,4 @@
 -- `values::node_value` meets its contract: one decision over the op, with the leaves as a range.
-use native.Mathlib.Nat.{le_of_suc-le-suc}
 use mathlib.Core.Path.{refl}
 use Rattle.values.proofs.Laws.{node-leaf, node-not, node-and, node-or, node_equal, node_unlike, node_none}
 use native.Mathlib.Omega.{arith}
