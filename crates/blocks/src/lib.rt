@@ -3,6 +3,7 @@
 // Total over any bytes: `vs` has the nodes' values. For each block one pass over the selects works out Lower of its symbols, one
 // over the defaults finds the first of each that applies. One pass over the ranges finds the first symbol that breaks one.
 #![tactic(auto)]
+
 ghost use Rattle.std.specs.Prelude.{◌≡◌, [], ◌+◌, ◌<◌, ◌≤◌, min, ltb};
 ghost use Rattle.tri.specs.Three.{or_of};
 ghost use Rattle.meaning.specs.declared.Outcome.TheVariants.{Clean};

@@ -2,6 +2,7 @@
 //
 // Total over any book and any sets; `closed_on` is what the walk calls, and whoever else has the sets of a path.
 #![tactic(auto)]
+
 ghost use Rattle.std.specs.Prelude.{◌≡◌, ◌&&◌, ◌<◌, ltb};
 ghost use Rattle.meaning.specs.Book.{member_count};
 ghost use Rattle.meaning.specs.Rules.{at_least};

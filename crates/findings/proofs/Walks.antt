@@ -8,9 +8,6 @@ use native.Mathlib.Omega.{arith}
 use lib.Dec.{eqb, leb, ltb}
 use lib.ListN.{length, get_or, set, length-set}
 use lib.Seq.{set-set, set-get_or}
-use types.Run.{OneOf}
-use denote.Enum.Declared.{tag_of}
-use Rattle.meaning.specs.contracts.Head.{the_type}
 use borrow.Author.Tests.{eqb-true, leb-true, lt-ltb, le-ltb}
 use Rattle.meaning.specs.declared.Walked.{Walked}
 use Rattle.meaning.specs.declared.Walked.TheVariants.{Next, Malformed, Open}
@@ -50,10 +47,10 @@ pub stopped : (m f ys : List ℕ) (left c : ℕ) → 65535 < c → decoded c ≡
 stopped m f ys left c h = rw (le-ltb c 65536 h) (stays m f ys left (ltb c 131072) (c - 65536) (c - 131072))
 
 -- nothing but a leaf goes on where no split is allowed
-not-leaf : (m : List ℕ) (q : ℕ) (ys : List ℕ) (at : ℕ) (h : Head) → OneOf (0 ∷ 2 ∷ 3 ∷ []) (tag_of the_type h)
+not-leaf : (m : List ℕ) (q : ℕ) (ys : List ℕ) (at : ℕ) (h : Head) → ((rule place next : ℕ) → h ≡ Leaf rule place next → ⊥)
     → on_head m q (λ w zs. Malformed at) ys at h ≡ Malformed at
 not-leaf m q ys at Bad k = refl
-not-leaf m q ys at (Leaf rule place next) k = absurd (⊎_elim (λ e. omega arith) (⊎_elim (λ e. omega arith) (λ e. omega arith)) k)
+not-leaf m q ys at (Leaf rule place next) k = absurd (k rule place next refl)
 not-leaf m q ys at (Two s next) k = refl
 not-leaf m q ys at (Three s next) k = refl
 
@@ -80,7 +77,7 @@ module _ (m f ys : List ℕ) (at : ℕ) {q : ℕ} (h : Head) (eq : q ≡ half f 
       pub leaf_open : x ≡ false → decoded (131072 + at) ≡ walked m f 0 (Next at) ys
       leaf_open t = unclosed at ∙ sym (at_head ∙ (rw (el, ← ex, t)))
 
-  pub leaf-not : at < 65536 → OneOf (0 ∷ 2 ∷ 3 ∷ []) (tag_of the_type h) → decoded (65536 + at) ≡ walked m f 0 (Next at) ys
+  pub leaf-not : at < 65536 → ((rule place next : ℕ) → h ≡ Leaf rule place next → ⊥) → decoded (65536 + at) ≡ walked m f 0 (Next at) ys
   leaf-not lt k = malformed at lt ∙ sym (at_head ∙ not-leaf m q ys at h k)
 
 -- WHAT IS NO SPLIT is walked alike however many splits are allowed

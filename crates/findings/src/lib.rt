@@ -2,6 +2,7 @@
 //
 // Any bytes in, one outcome out, and both rooms afterwards as document 01 owes them.
 #![tactic(auto)]
+
 ghost use Rattle.std.specs.Prelude.{◌≡◌, true, ◌+◌, ◌<◌, ◌≤◌, length, replicate};
 ghost use Rattle.meaning.specs.Book.{symbols as symbols_of, nodes as nodes_of};
 ghost use Rattle.meaning.specs.Rules.{unmet_in};

@@ -2,6 +2,7 @@
 //
 // The caller lends 65,535 bytes of node work, which is a byte for every node that a book can count, and room for the line.
 #![tactic(auto)]
+
 ghost use Rattle.std.specs.Prelude.{◌≡◌, ◌+◌, ◌<◌, ◌≤◌, ◌∷◌, [], ◌++◌, length, drop};
 ghost use Rattle.meaning.specs.Base.{answer_of};
 ghost use Rattle.meaning.specs.Book.{name_of};

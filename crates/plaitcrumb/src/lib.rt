@@ -2,6 +2,7 @@
 //
 // No heap, no globals; any bytes in, a plain integer out, and every lent byte stated.
 #![tactic(auto)]
+
 ghost use Rattle.std.specs.Prelude.{◌≡◌, length};
 ghost use Rattle.meaning.specs.Base.{answer_of, packed};
 ghost use Rattle.meaning.specs.Book.{book_fault, name_place, name_place_in};

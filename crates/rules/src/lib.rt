@@ -3,6 +3,7 @@
 // `check` is the table check: any bytes in, one outcome out, and the node work afterwards as document 01 owes it. `check_in` is what
 // it does after the book, for many tables of one book.
 #![tactic(auto)]
+
 ghost use Rattle.std.specs.Prelude.{◌≡◌};
 ghost use Rattle.meaning.specs.Base.{first_below};
 ghost use Rattle.meaning.specs.Book.{symbols as symbols_of, choices as choices_of};

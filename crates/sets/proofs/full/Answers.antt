@@ -14,4 +14,4 @@ returns-in-1 c = rw c.in-1.is
 
 pub returns-in_default : goal.returns-in_default
 unfolding full
-returns-in_default c = rw (ne_eqb _ 0 (omega arith), ne_eqb _ 1 (omega arith))
+returns-in_default c = rw (ne_eqb c.args.kind 0 (omega arith), ne_eqb c.args.kind 1 (omega arith))

@@ -18,4 +18,4 @@ returns-in-2 c = rw c.in-2.is
 
 pub returns-in_default : goal.returns-in_default
 unfolding has
-returns-in_default c = rw (ne_eqb _ 0 (omega arith), ne_eqb _ 1 (omega arith), ne_eqb _ 2 (omega arith))
+returns-in_default c = rw (ne_eqb c.args.v 0 (omega arith), ne_eqb c.args.v 1 (omega arith), ne_eqb c.args.v 2 (omega arith))
