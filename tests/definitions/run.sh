@@ -8,7 +8,7 @@ trap 'rm -rf "$work"' EXIT
 trap 'exit 1' HUP INT TERM
 
 # prove REPOSITORY CRATE
-prove() { (cd "$work/$1" && rt check "$2") > "$work/$1.$2" 2>&1; }
+prove() { (cd "$work/$1/crates/$2" && rt check) > "$work/$1.$2" 2>&1; }
 
 # As it stands it must be proved, or a refusal would say nothing.
 mkdir -p "$work/as-it-stands/crates"
@@ -41,8 +41,8 @@ refused() {
     if prove "$1" demands; then echo "$1: NOT refused"; return 1; fi
     error=$(grep -m 1 ' error: ' "$work/$1.demands" || tail -n 1 "$work/$1.demands")
     # shellcheck disable=SC2016
-    fact=$(printf '%s\n' "$error" | grep -v 'not in scope' |
-        sed -n 's|^.*/crates/demands/\(proofs/[A-Za-z]*\.antt\):[0-9:]* error: `\([^`]*\)`: .*|\1, \2|p')
+    fact=$(printf '%s\n' "$error" | grep -v -e 'not in scope' -e 'has no field' -e 'has no `' -e 'not admitted' |
+        sed -n 's|^\./\(proofs/[A-Za-z]*\.antt\):[0-9:]* error: `\([^`]*\)`: .*|\1, \2|p')
     [ -n "$fact" ] || { echo "$1: not refused for a fact: $error"; return 1; }
     echo "$1: $(sed -n '1s/^# //p' "$edit"): refused at $fact"
     : > "$work/$1.refused"
