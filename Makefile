@@ -10,10 +10,10 @@ T ?= 60
 # Proves and builds what it needs, and tells the story of the clock tree: the tables and the findings by the proved archive,
 # and one line by the program.
 demo: lib
-	@rt check desk > build/desk.log 2>&1 || { tail -n 30 build/desk.log; exit 1; }
+	@(cd crates/desk && rt run < stdin) > build/desk.log 2>&1 || { tail -n 30 build/desk.log; exit 1; }
 	@examples/run.sh
-	@printf '\nThe program (target/bin/desk) prints the same for the model and the table with TICK off: '
-	@target/bin/desk < crates/desk/stdin
+	@printf '\nThe program (crates/desk/out/desk) prints the same for the model and the table with TICK off: '
+	@crates/desk/out/desk < crates/desk/stdin
 	@echo "P1 to P10 of document 01 and this line are also proved of the definitions: crates/meaning/specs/Cases.antt."
 
 # The gate.
@@ -22,10 +22,10 @@ test:
 
 # build/libplaitcrumb.a: with include/plaitcrumb.h it is all that a C host needs. Made again when a crate has changed.
 lib: build/libplaitcrumb.a
-build/libplaitcrumb.a: crates.txt $(shell find crates -name '*.rt' -o -name '*.antt')
+build/libplaitcrumb.a: crates.txt $(shell find crates -name out -prune -o \( -name '*.rt' -o -name '*.antt' \) -print)
 	@mkdir -p build
-	@rt staticlib plaitcrumb > build/lib.log 2>&1 || { tail -n 30 build/lib.log; exit 1; }
-	@cp target/staticlib/libplaitcrumb.a build/
+	@(cd crates/plaitcrumb && rt lib) > build/lib.log 2>&1 || { tail -n 30 build/lib.log; exit 1; }
+	@cp crates/plaitcrumb/out/libplaitcrumb.a build/
 	@echo "build/libplaitcrumb.a is proved and built."
 
 # The archive, the header and a pkg-config file below PREFIX.
@@ -63,5 +63,6 @@ cases:
 second:
 	@CARGO_TARGET_DIR=build/cargo cargo build --offline --release --quiet --manifest-path tests/second/Cargo.toml
 
+# The proofs that are kept below crates go too: the next check starts from nothing.
 clean:
-	rm -rf build target
+	rm -rf build crates/*/out

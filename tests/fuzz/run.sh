@@ -18,26 +18,33 @@ if ! clang -fsanitize=fuzzer "$out/empty.c" -o "$out/empty" 2> "$out/clang.log";
     exit 2
 fi
 
-# A toolchain for rt that is the kit's own but for its clang, which adds the counters. Only what stands below build/fuzz is
-# built with it.
-kit=${RATTLE_HOME:-$(dirname "$(dirname "$(readlink -f "$(command -v rt)")")")}
-machine=$(uname -m)
-links() { mkdir -p "$2" && for file in "$1"/*; do [ "$(basename "$file")" = "$3" ] || ln -sfn "$file" "$2/"; done; }
-rm -rf "$out/kit"
-links "$kit" "$out/kit" on
-links "$kit/on/$machine" "$out/kit/on/$machine" toolchain
-links "$kit/on/$machine/toolchain" "$out/kit/on/$machine/toolchain" bin
-links "$kit/on/$machine/toolchain/bin" "$out/kit/on/$machine/toolchain/bin" clang
-printf '#!/bin/sh\nexec "%s" %s "$@"\n' "$kit/on/$machine/toolchain/bin/clang" "$counters" > "$out/kit/on/$machine/toolchain/bin/clang"
-chmod +x "$out/kit/on/$machine/toolchain/bin/clang"
-mkdir -p "$out/tree/target" target/rlib target/stamp
-ln -sfn "$PWD/crates" "$PWD/crates.txt" "$out/tree/"
-ln -sfn "$PWD/target/rlib" "$PWD/target/stamp" "$out/tree/target/"
-(cd "$out/tree" && RATTLE_HOME="$out/kit" rt staticlib plaitcrumb) > "$out/staticlib.log" 2>&1 || { tail -n 20 "$out/staticlib.log"; exit 1; }
+# A kit for rt that is the kit itself but for its clang, which adds the counters. rt takes the kit that it lies in, so its own files are copied, and the rest
+# are links. Only the archive is built with it, and that is moved away at once, so that no archive with counters stands below crates.
+kit=$(dirname "$(dirname "$(readlink -f "$(command -v rt)")")")
+own=$(mktemp -d)
+trap 'rm -rf "$own"' EXIT
+trap 'exit 1' HUP INT TERM
+# links FROM TO NAMES: links to all in the folder but the names.
+links() {
+    mkdir -p "$2"
+    for file in "$1"/*; do
+        case " $3 " in *" ${file##*/} "*) ;; *) ln -s "$file" "$2/" ;; esac
+    done
+}
+links "$kit" "$own/kit" "bin toolchain"
+links "$kit/bin" "$own/kit/bin" "rt rtlib.py"
+cp "$kit/bin/rt" "$kit/bin/rtlib.py" "$own/kit/bin/"
+links "$kit/toolchain" "$own/kit/toolchain" bin
+links "$kit/toolchain/bin" "$own/kit/toolchain/bin" clang
+printf '#!/bin/sh\nexec "%s" %s "$@"\n' "$kit/toolchain/bin/clang" "$counters" > "$own/kit/toolchain/bin/clang"
+chmod +x "$own/kit/toolchain/bin/clang"
+(cd crates/plaitcrumb && "$own/kit/bin/rt" lib) > "$out/lib.log" 2>&1 || { tail -n 20 "$out/lib.log"; exit 1; }
+mv crates/plaitcrumb/out/libplaitcrumb.a "$out/"
+nm "$out/libplaitcrumb.a" | grep -q __sanitizer_cov || { echo "the archive has no counters" >&2; exit 1; }
 
 # The judge with counters too, and both in one program. A folder of its own, so that nothing else is built again.
 host=x86_64-unknown-linux-gnu
-PLAITCRUMB_LIB=build/fuzz/tree/target/staticlib/libplaitcrumb.a CARGO_TARGET_DIR=$out/cargo RUSTFLAGS="-Cpasses=sancov-module \
+PLAITCRUMB_LIB=build/fuzz/libplaitcrumb.a CARGO_TARGET_DIR=$out/cargo RUSTFLAGS="-Cpasses=sancov-module \
     -Cllvm-args=-sanitizer-coverage-level=3 -Cllvm-args=-sanitizer-coverage-inline-8bit-counters \
     -Cllvm-args=-sanitizer-coverage-pc-table" \
     cargo build --offline --release --quiet --lib --target "$host" --manifest-path tests/fuzz/Cargo.toml
