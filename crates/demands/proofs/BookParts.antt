@@ -1,5 +1,5 @@
--- The book's search, part by part: each part is clean where the book is well_formed there, and gives the fault that document 01 names. Sections
--- and records are numbered as the document does, and members count by their index, since well_formed choices take them in order. Assumes nothing.
+-- The book's search, part by part: each part is clean where the book is well-formed there, and gives the fault that document 01 names. Sections
+-- and records are numbered as the document does, and members count by their index, since well-formed choices take them in order. Assumes nothing.
 use Prim.Native.Nat.{ℕ, zero, suc, ◌+◌, ◌≤◌, ◌<◌}
 use mathlib.Core.Path.{◌≡◌, refl, sym, ◌∙◌, ap, subst}
 use mathlib.Core.Bool.{true, false, ◌&&◌, true≢false}
@@ -128,7 +128,7 @@ module _ (m : List ℕ) where
   choice_members_search c =
       search_each 3 (λ j. 7) (λ j. first_member m c + j) (member_count m c) (λ j. says_not Iff.rfl) (λ j. denies_not Iff.rfl)
 
-  -- well_formed choices take their members in order, so an earlier choice has earlier members
+  -- well-formed choices take their members in order, so an earlier choice has earlier members
   module _ (good : GoodBelow m 7) where
     starts : (c : ℕ) → c < choices m → first_member m c ≡ member_due m c
     unfolding record_ok choice_ok

@@ -35,7 +35,7 @@ clearance_sound m f node_room symbol_room kind accepted t readable valid =
     (denies_unmet m t (select_of f)).0
     (sound_tests m f t a.1 ((readable_iff t (symbols m)).1 readable) ((valid_iff m t a.0.0).1 valid))
 
--- COMPLETE: in a well_formed model of boolean and tristate symbols alone, where no readable valid table leaves select q unmet, the complete
+-- COMPLETE: in a well-formed model of boolean and tristate symbols alone, where no readable valid table leaves select q unmet, the complete
 -- clearance is accepted, if it is short enough to be a finding and both rooms are long enough. It is about q: `complete-select`
 pub clearance_complete : (m : List ℕ) (q node_room symbol_room : ℕ) → WellFormed m → q < selects m → ((s : ℕ) → s < symbols m → type_of m s ≤ 1)
     → ((t : List ℕ) → Readable t (symbols m) → Valid m t → ¬ Unmet m t q) → length (complete m q) ≤ 65535 → nodes m ≤ node_room

@@ -1,4 +1,4 @@
--- The table's search, part by part: clean exactly where the table is readable, else the fault that document 01 names. Entries that are well_formed
+-- The table's search, part by part: clean exactly where the table is readable, else the fault that document 01 names. Entries that are well-formed
 -- end within the table, so bodies that do not end at the total end before it. Assumes nothing.
 use Prim.Native.Nat.{ℕ, zero, suc, ◌+◌, ◌*◌, ◌≤◌}
 use mathlib.Core.Path.{◌≡◌, refl}

@@ -107,7 +107,7 @@ module _ (m t : List ℕ) (room : ℕ) where
           (λ x. (x.0, (x.1, refl, x.2, x.3))),
         )))
 
--- THE TABLE CHECK: the same in a well_formed book
+-- THE TABLE CHECK: the same in a well-formed book
 module _ (m t : List ℕ) (room : ℕ) where
   pub table_valid : (verdict m t room ≡ Clean) ↔ (WellFormed m × Readable t (symbols m) × (nodes m ≤ room) × Valid m t)
   unfolding verdict

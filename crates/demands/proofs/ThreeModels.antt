@@ -1,4 +1,4 @@
--- In a well_formed model of boolean and tristate symbols alone no equality reads another kind of symbol, there is no range, and a boolean
+-- In a well-formed model of boolean and tristate symbols alone no equality reads another kind of symbol, there is no range, and a boolean
 -- choice has boolean members: each record's own check says so. Assumes nothing.
 use Prim.Native.Nat.{ℕ, ◌≤◌, ◌<◌}
 use mathlib.Core.Path.{◌≡◌, refl}

@@ -78,7 +78,7 @@ fn same_three(m: &[u8], t: &[u8], v: u8, b: Leaf) -> bool
 }
 
 // Whether leaf b is the text x.
-fn same_text_lem(x: &[u8], m: &[u8], t: &[u8], b: Leaf) -> bool
+fn same_text(x: &[u8], m: &[u8], t: &[u8], b: Leaf) -> bool
     ensures { result ≡ same_content (a_text x.now) (leaf_content m.now t.now b) }
 {
     match b {
@@ -125,8 +125,8 @@ fn same_content(m: &[u8], t: &[u8], a: Leaf, b: Leaf) -> bool
 {
     match a {
         Leaf::Three(v) => same_three(m, t, v, b),
-        Leaf::Note(at, n) => same_text_lem(raw::part(m, at, n), m, t, b),
-        Leaf::Text(at, n) => same_text_lem(raw::part(t, at, n), m, t, b),
+        Leaf::Note(at, n) => same_text(raw::part(m, at, n), m, t, b),
+        Leaf::Text(at, n) => same_text(raw::part(t, at, n), m, t, b),
         _ => ordered(a, b) & ordered(b, a),
     }
 }
