@@ -1,10 +1,7 @@
 -- `book::name` meets its contract: nothing for a bad book and for no symbol, else the part that spells the name.
 use native.Mathlib.Omega.{arith}
-use Rattle.book.proofs.Laws.{name_bad, name_past, name_is}
+use Rattle.book.proofs.Laws.{name_past, name_is}
 use Rattle.book.proofs.name.Goals as goal
-
-pub returns-in-Fault : goal.returns-in-Fault
-returns-in-Fault c = name_bad c.args.model.now c.args.index c.fault-book.ensures c.in-Fault.is c.part.ensures
 
 pub returns-then-symbols-index : goal.returns-then-symbols-index
 returns-then-symbols-index c = name_past c.args.model.now c.args.index c.fault-book.ensures c.in_default.is c.symbols.ensures.0 c.if-symbols-index.true c.part-then-symbols-index.ensures
