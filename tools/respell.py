@@ -75,8 +75,13 @@ def alias(name):
     return "".join(p[:1].upper() + p[1:] for p in re.split(r"[-_]", name))
 
 
-def turned(text, new, behind_dots=True):
+def turned(text, new):
+    """The text by the table. A comment's own words are no lemmas: there a name with a dash stays."""
+    comments = [m.span() for m in re.finditer(r"(--|//)[^\n]*", text)]
+
     def one(m):
+        if "-" in m["word"] and any(a <= m.start() < b for a, b in comments):
+            return m[0]
         word = m["word"]
         tail = re.search(r"'*$", word)[0]
         stem = word[: len(word) - len(tail)]
@@ -100,7 +105,8 @@ def main():
         for name, olds in sorted(met.items()):
             if len(olds) > 1:
                 print(f"together: {path}: {' '.join(sorted(olds))} -> {name}")
-        text = turned(text, new)
+        # what a .rt file calls by a lemma's name is a function of its own
+        text = turned(text, {a: b for a, b in new.items() if path.endswith(".antt") or not b.endswith("_lem")})
         # an import that was renamed to what it is now called
         text = re.sub(rf"({WORD}) as \1(?=[,}}])", r"\1", text)
         if text != old:
