@@ -6,9 +6,9 @@ use mathlib.Core.Logic.{◌⊎◌, inl, inr, ◌↔◌, ⊎_elim}
 use native.Mathlib.Nat.{not-suc-le-zero, eq-or-lt_of_le, le_of_suc-le-suc}
 use native.Mathlib.Omega.{arith}
 use native.Mathlib.Numerals.{add-one}
-use Rattle.meaning.specs.declared.Outcome.{Outcome}
-use Rattle.meaning.specs.declared.Outcome.TheVariants.{Clean, Fault}
-use Rattle.meaning.specs.Base.{when, or_else, first_below}
+use Rattle.std.specs.Prelude.{Ok, Err}
+use Rattle.meaning.specs.declared.Answer.{Answer}
+use Rattle.meaning.specs.Base.{Outcome, Clean, Fault, when, or_else, first_below}
 
 abbrev pub IsClean : Outcome → Type 0
 IsClean a = a ≡ Clean
@@ -17,12 +17,15 @@ abbrev pub IsFault : Outcome → Type 0
 IsFault a = a ≡ Clean → ⊥
 
 -- a fault that is written out is one
+pub an_err : (f : Answer) → IsFault (Err f)
+an_err f e = let z : ◌≡◌ {A = ℕ} 0 1 = cc in omega arith
+
 pub a_fault : (n p s : ℕ) → IsFault (Fault n p s)
-a_fault n p s e = let z : ◌≡◌ {A = ℕ} 0 1 = cc in omega arith
+a_fault n p s = an_err _
 
 pub which : (a : Outcome) → IsClean a ⊎ IsFault a
-which Clean = inl refl
-which (Fault n p s) = inr (a_fault n p s)
+which (Ok tt) = inl refl
+which (Err f) = inr (an_err f)
 
 -- a then b: b if a is clean, a if it is a fault
 pub or_else_clean : (a b : Outcome) → IsClean a → or_else a b ≡ b
@@ -31,14 +34,14 @@ or_else_clean a b h = rw h
 
 pub or_else_fault : (a b : Outcome) → IsFault a → or_else a b ≡ a
 unfolding or_else
-or_else_fault Clean b h = absurd (h refl)
-or_else_fault (Fault n p s) b h = refl
+or_else_fault (Ok tt) b h = absurd (h refl)
+or_else_fault (Err f) b h = refl
 
 -- the first of two is clean exactly when both are
 pub or_else_iff : (a b : Outcome) → IsClean (or_else a b) ↔ (IsClean a × IsClean b)
 unfolding or_else
-or_else_iff Clean b = (λ h. (refl, h), λ h. h.1)
-or_else_iff (Fault n p s) b = (λ h. absurd (a_fault n p s h), λ h. h.0)
+or_else_iff (Ok tt) b = (λ h. (refl, h), λ h. h.1)
+or_else_iff (Err f) b = (λ h. absurd (an_err f h), λ h. h.0)
 
 -- a test that holds gives its fault; one that does not, none
 pub when_iff : (b : Bool) (a : Outcome) → IsFault a → IsClean (when b a) ↔ (b ≡ false)
@@ -134,19 +137,19 @@ module _ (t : ℕ → Outcome) where
       (λ k. let g = fault_up m e (le_of_suc-le-suc k) f in or_else_fault (first_below t m) (t m) (λ z. f (sym g ∙ z)) ∙ g)
       (eq-or-lt_of_le l)
 
-  pub block_fault : (m e : ℕ) {r : Outcome} {n p s : ℕ} → r ≡ first_below t e → r ≡ Fault n p s → e ≤ m → r ≡ first_below t m
-  block_fault m e {n = n} {p = p} {s = s} er f l = er ∙ sym (fault_up m e l (λ z. a_fault n p s (sym f ∙ er ∙ z)))
+  pub block_fault : (m e : ℕ) {r : Outcome} {f : Answer} → r ≡ first_below t e → r ≡ Err f → e ≤ m → r ≡ first_below t m
+  block_fault m e {f = f} er is l = er ∙ sym (fault_up m e l (λ z. an_err f (sym is ∙ er ∙ z)))
 
   -- and a fault at k with none before it
-  pub place_fault : (m k : ℕ) {r : Outcome} {n p s : ℕ} → first_below t k ≡ Clean → r ≡ t k → r ≡ Fault n p s → k < m → r ≡ first_below t m
+  pub place_fault : (m k : ℕ) {r : Outcome} {f : Answer} → first_below t k ≡ Clean → r ≡ t k → r ≡ Err f → k < m → r ≡ first_below t m
   unfolding first_below or_else
   place_fault m k {r = r} e er f l =
       let g : r ≡ first_below t (suc k) = rw e er in
       block_fault m (suc k) g f l
 
 -- ONE SEARCH AFTER ANOTHER: the first has a fault, or it is clean and the second decides
-pub first_fault : {r a : Outcome} {n p s : ℕ} (b : Outcome) → r ≡ a → r ≡ Fault n p s → r ≡ or_else a b
-first_fault {r = r} {a = a} {n = n} {p = p} {s = s} b e f = e ∙ sym (or_else_fault a b (λ z. a_fault n p s (sym f ∙ e ∙ z)))
+pub first_fault : {r a : Outcome} {f : Answer} (b : Outcome) → r ≡ a → r ≡ Err f → r ≡ or_else a b
+first_fault {r = r} {a = a} {f = f} b e is = e ∙ sym (or_else_fault a b (λ z. an_err f (sym is ∙ e ∙ z)))
 
 pub first_clean : {r a q b : Outcome} → r ≡ a → r ≡ Clean → q ≡ b → q ≡ or_else a b
 first_clean {a = a} {b = b} e f g = g ∙ sym (or_else_clean a b (sym e ∙ f))

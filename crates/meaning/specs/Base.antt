@@ -1,8 +1,6 @@
 -- Bytes, tests over ranges of numbers, first faults, and the numbers that an outcome is answered with. Assumes nothing: these are definitions.
-use Rattle.std.specs.Prelude.{ℕ, zero, suc, ◌+◌, ◌*◌, Bool, true, false, ◌&&◌, List, [], ◌∷◌, ◌++◌, eqb, get_or, take, drop}
+use Rattle.std.specs.Prelude.{ℕ, zero, suc, ◌+◌, ◌*◌, Bool, true, false, ◌&&◌, List, [], ◌∷◌, ◌++◌, eqb, get_or, take, drop, Result, Ok, Err}
 use Rattle.meaning.specs.declared.Answer.{Answer}
-use Rattle.meaning.specs.declared.Outcome.{Outcome}
-use Rattle.meaning.specs.declared.Outcome.TheVariants.{Clean, Fault}
 
 module _ {ℓ} {A : Type ℓ} where
   -- a where the test holds, else b
@@ -60,6 +58,16 @@ build f zero = []
 build f (suc n) = let vs = build f n in vs ++ (f vs n ∷ [])
 
 -- FIRST FAULTS
+-- what a check finds: nothing, or the first fault as number, place and second place
+abbrev pub Outcome : Type 0
+Outcome = Result Unit Answer
+
+abbrev pub Clean : Outcome
+Clean = Ok tt
+
+abbrev pub Fault : ℕ → ℕ → ℕ → Outcome
+Fault n p s = Err (record { number = n; place = p; second = s })
+
 -- the fault where the test holds, else none
 unfoldable pub when : Bool → Outcome → Outcome
 when true a = a
@@ -67,8 +75,8 @@ when false a = Clean
 
 -- a's fault, or b's where a has none
 unfoldable pub or_else : Outcome → Outcome → Outcome
-or_else Clean b = b
-or_else (Fault n p s) b = Fault n p s
+or_else (Ok _) b = b
+or_else (Err f) b = Err f
 
 -- the first fault among those at the places below n
 unfoldable pub first_below : (ℕ → Outcome) → ℕ → Outcome
@@ -77,13 +85,13 @@ first_below t (suc n) = let last = t n in or_else (first_below t n) last
 
 -- a after a clean outcome, b after a fault
 abbrev pub if_clean : {A : Type 0} → Outcome → A → A → A
-if_clean Clean a b = a
-if_clean (Fault n p s) a b = b
+if_clean (Ok _) a b = a
+if_clean (Err f) a b = b
 
 -- NUMBERS ANSWERED: 0 for clean, else the fault's own; 65535 stands for no place
 abbrev pub answer_of : Outcome → Answer
-answer_of Clean = record { number = 0; place = 65535; second = 65535 }
-answer_of (Fault n p s) = record { number = n; place = p; second = s }
+answer_of (Ok _) = record { number = 0; place = 65535; second = 65535 }
+answer_of (Err f) = f
 
 -- the three numbers in one, as an exported check returns them: every place fits 16 bits
 abbrev pub packed : Answer → ℕ

@@ -1,8 +1,6 @@
 -- The model book: its contents, its records, and its first fault, answers 1 to 4. Assumes nothing: these are definitions.
 use Rattle.std.specs.Prelude.{ℕ, zero, suc, ◌+◌, ◌-◌, ◌*◌, ◌<◌, ◌≤◌, ◌≡◌, ◌⊎◌, Bool, true, false, ◌&&◌, ◌||◌, not, List, [], ◌∷◌, eqb, leb, ltb, length, get_or}
-use Rattle.meaning.specs.declared.Outcome.{Outcome}
-use Rattle.meaning.specs.declared.Outcome.TheVariants.{Fault}
-use Rattle.meaning.specs.Base.{pick, half, part, same_text, all_below, when, or_else, first_below, if_clean}
+use Rattle.meaning.specs.Base.{Outcome, Fault, pick, half, part, same_text, all_below, when, or_else, first_below, if_clean}
 
 -- CONTENTS
 abbrev pub total : List ℕ → ℕ

@@ -1,9 +1,9 @@
 -- A clearance: when a leaf is closed, and the walk of the tree. Assumes nothing: these are definitions.
-use Rattle.std.specs.Prelude.{ℕ, zero, suc, ◌+◌, Bool, false, ◌&&◌, ◌||◌, not, List, eqb, leb, ltb, length, get_or, set}
-use Rattle.meaning.specs.declared.Walked.{Walked}
-use Rattle.meaning.specs.declared.Walked.TheVariants.{Next, Malformed, Open}
+use Rattle.std.specs.Prelude.{ℕ, zero, suc, ◌+◌, Bool, false, ◌&&◌, ◌||◌, not, List, eqb, leb, ltb, length, get_or, set, Option, Some, None, Result, Ok, Err}
+use Rattle.meaning.specs.declared.Stop.{Stop}
+use Rattle.meaning.specs.declared.Stop.TheVariants.{Malformed, Open}
 use Rattle.meaning.specs.declared.Head.{Head}
-use Rattle.meaning.specs.declared.Head.TheVariants.{Bad, Leaf, Two, Three}
+use Rattle.meaning.specs.declared.Head.TheVariants.{Leaf, Two, Three}
 use Rattle.meaning.specs.Base.{pick, half}
 use Rattle.meaning.specs.Book.{symbols, choices, three_type, selector_of, target_of, condition_of, mandatory_of, choice_prompt, member_count, member_of, modules_of, modules_declared}
 use Rattle.meaning.specs.Rules.{broken11, broken12, broken13, broken15, broken17, broken18, exceeds, at_least}
@@ -70,35 +70,38 @@ leaf_stands m q rule place =
     (pick (eqb rule 15 || eqb rule 17) (ltb place (choices m))
     ((eqb rule 11 || eqb rule 12 || eqb rule 13 || eqb rule 18) && ltb place (symbols m) && three_type m place))
 
-unfoldable pub leaf_head : List ℕ → ℕ → ℕ → ℕ → ℕ → Head
-leaf_head m q rule place next = pick (leaf_stands m q rule place) (Leaf rule place next) Bad
+unfoldable pub leaf_head : List ℕ → ℕ → ℕ → ℕ → ℕ → Option Head
+leaf_head m q rule place next = pick (leaf_stands m q rule place) (Some (Leaf rule place next)) None
 
 -- a symbol s that still has all that its type allows, a: boolean, or tristate
-unfoldable pub split_head : ℕ → ℕ → ℕ → Head
-split_head a s next = pick (eqb a 5) (Two s next) (pick (eqb a 7) (Three s next) Bad)
+unfoldable pub split_head : ℕ → ℕ → ℕ → Option Head
+split_head a s next = pick (eqb a 5) (Some (Two s next)) (pick (eqb a 7) (Some (Three s next)) None)
 
--- what stands at an offset of finding f: a leaf has four bytes, a split three and then its branches
-unfoldable pub head_of : List ℕ → ℕ → List ℕ → List ℕ → ℕ → Head
+-- what stands at an offset of finding f, none where nothing may stand there: a leaf has four bytes, a split three and then its branches
+unfoldable pub head_of : List ℕ → ℕ → List ℕ → List ℕ → ℕ → Option Head
 head_of m q f ys at =
     pick (eqb (get_or f at 0) 1 && leb (at + 4) (length f)) (leaf_head m q (get_or f (at + 1) 0) (half f (at + 2)) (at + 4))
-    (pick (eqb (get_or f at 0) 0 && leb (at + 3) (length f)) (split_head (sat ys (half f (at + 1))) (half f (at + 1)) (at + 3)) Bad)
+    (pick (eqb (get_or f at 0) 0 && leb (at + 3) (length f)) (split_head (sat ys (half f (at + 1))) (half f (at + 1)) (at + 3)) None)
+
+-- WHERE A WALK STANDS: at the offset where it goes on, or stopped at a malformed or an unclosed node
+abbrev pub Walked : Type 0
+Walked = Result ℕ Stop
 
 -- a walk that stopped stays there
 abbrev pub and_then : Walked → (ℕ → Walked) → Walked
-and_then (Next at) go = go at
-and_then (Malformed at) go = Malformed at
-and_then (Open at) go = Open at
+and_then (Ok at) go = go at
+and_then (Err e) go = Err e
 
 -- by what stands at an offset; a split goes through its branches in order, n first
-abbrev pub on_head : List ℕ → ℕ → (Walked → List ℕ → Walked) → List ℕ → ℕ → Head → Walked
-on_head m q branch ys at Bad = Malformed at
-on_head m q branch ys at (Leaf rule place next) = pick (closed_on m q ys rule place) (Next next) (Open at)
-on_head m q branch ys at (Two s next) = branch (branch (Next next) (set ys s 1)) (set ys s 4)
-on_head m q branch ys at (Three s next) = branch (branch (branch (Next next) (set ys s 1)) (set ys s 2)) (set ys s 4)
+abbrev pub on_head : List ℕ → ℕ → (Walked → List ℕ → Walked) → List ℕ → ℕ → Option Head → Walked
+on_head m q branch ys at None = Err (Malformed at)
+on_head m q branch ys at (Some (Leaf rule place next)) = pick (closed_on m q ys rule place) (Ok next) (Err (Open at))
+on_head m q branch ys at (Some (Two s next)) = branch (branch (Ok next) (set ys s 1)) (set ys s 4)
+on_head m q branch ys at (Some (Three s next)) = branch (branch (branch (Ok next) (set ys s 1)) (set ys s 2)) (set ys s 4)
 
 -- from where the walk stands, with so many splits still allowed on the path
 unfoldable pub walk_of : List ℕ → ℕ → List ℕ → ℕ → Walked → List ℕ → Walked
-walk_of m q f zero from ys = and_then from (λ at. on_head m q (λ w zs. Malformed at) ys at (head_of m q f ys at))
+walk_of m q f zero from ys = and_then from (λ at. on_head m q (λ w zs. Err (Malformed at)) ys at (head_of m q f ys at))
 walk_of m q f (suc left) from ys = and_then from (λ at. on_head m q (walk_of m q f left) ys at (head_of m q f ys at))
 
 -- names every definition of this file: who says `unfolding open_clearance` has them all

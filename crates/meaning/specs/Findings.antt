@@ -1,15 +1,12 @@
 -- Findings: the head, witnesses, clearances, both rooms after each answer, and the complete clearance. Assumes nothing: these are definitions.
-use Rattle.std.specs.Prelude.{ℕ, zero, suc, ◌+◌, ◌*◌, ◌/◌, ◌%◌, ◌||◌, not, List, [], ◌∷◌, ◌++◌, eqb, ltb, length, get_or, drop, replicate}
-use Rattle.meaning.specs.declared.Outcome.{Outcome}
-use Rattle.meaning.specs.declared.Outcome.TheVariants.{Clean, Fault}
-use Rattle.meaning.specs.declared.Walked.{Walked}
-use Rattle.meaning.specs.declared.Walked.TheVariants.{Next, Malformed, Open}
-use Rattle.meaning.specs.Base.{pick, tabulate, half, when, or_else, if_clean}
+use Rattle.std.specs.Prelude.{ℕ, zero, suc, ◌+◌, ◌*◌, ◌/◌, ◌%◌, ◌||◌, not, List, [], ◌∷◌, ◌++◌, eqb, ltb, length, get_or, drop, replicate, Ok, Err}
+use Rattle.meaning.specs.declared.Stop.TheVariants.{Malformed, Open}
+use Rattle.meaning.specs.Base.{Outcome, Fault, pick, tabulate, half, when, or_else, if_clean}
 use Rattle.meaning.specs.Book.{symbols, nodes, selects, type_of, book_fault}
 use Rattle.meaning.specs.Table.{table_fault}
 use Rattle.meaning.specs.Rules.{rule_fault, unmet, node_room_fault, open_rules}
 use Rattle.meaning.specs.Sets.{full_sets, open_sets}
-use Rattle.meaning.specs.Clearance.{walk_of, open_clearance}
+use Rattle.meaning.specs.Clearance.{Walked, walk_of, open_clearance}
 
 -- THE HEAD: the select, the kind (0 witness, 1 clearance), a zero
 unfoldable pub select_of : List ℕ → ℕ
@@ -38,12 +35,12 @@ witness_fault m f =
 
 -- A CLEARANCE goes on with one tree: accepted where every leaf is closed and nothing is left over
 abbrev pub walk_fault : List ℕ → Walked → Outcome
-walk_fault f (Next at) = when (not (eqb at (length f))) (Fault 22 at 65535)
-walk_fault f (Malformed at) = Fault 22 at 65535
-walk_fault f (Open at) = Fault 23 at 65535
+walk_fault f (Ok at) = when (not (eqb at (length f))) (Fault 22 at 65535)
+walk_fault f (Err (Malformed at)) = Fault 22 at 65535
+walk_fault f (Err (Open at)) = Fault 23 at 65535
 
 unfoldable pub clearance_fault : List ℕ → List ℕ → Outcome
-clearance_fault m f = walk_fault f (walk_of m (select_of f) f 64 (Next 4) (full_sets m))
+clearance_fault m f = walk_fault f (walk_of m (select_of f) f 64 (Ok 4) (full_sets m))
 
 -- THE FINDING'S OUTCOME, for rooms of so many bytes. 8: symbol work shorter than one byte a symbol
 unfoldable pub symbol_room_fault : List ℕ → ℕ → Outcome
@@ -89,8 +86,8 @@ table_of vs = bytes_of (4 + 5 * length vs) ++ (bytes_of (length vs) ++ (contents
 
 -- a leaf by the first broken rule there, or by 20
 abbrev pub leaf_bytes : ℕ → Outcome → List ℕ
-leaf_bytes q Clean = 1 ∷ 20 ∷ bytes_of q
-leaf_bytes q (Fault n p s) = 1 ∷ n ∷ bytes_of p
+leaf_bytes q (Ok _) = 1 ∷ 20 ∷ bytes_of q
+leaf_bytes q (Err f) = 1 ∷ f.number ∷ bytes_of f.place
 
 -- below the path on which the first symbols have the values vs: a split on the next, by the types of those left
 unfoldable pub complete_tree : List ℕ → ℕ → List ℕ → List ℕ → List ℕ

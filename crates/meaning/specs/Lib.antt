@@ -1,3 +1,4 @@
+pub mod Numbers
 pub mod Base
 pub mod Book
 pub mod Table

@@ -1,9 +1,7 @@
 -- The program: how it splits its input, and the line that it prints. Assumes nothing: these are definitions.
-use Rattle.std.specs.Prelude.{ℕ, ◌&&◌, ◌||◌, List, [], ◌∷◌, ◌++◌, eqb, leb, ltb, length, take, drop}
+use Rattle.std.specs.Prelude.{ℕ, ◌&&◌, ◌||◌, List, [], ◌∷◌, ◌++◌, eqb, leb, ltb, length, take, drop, Ok, Err}
 use Rattle.meaning.specs.declared.Answer.{Answer}
-use Rattle.meaning.specs.declared.Outcome.{Outcome}
-use Rattle.meaning.specs.declared.Outcome.TheVariants.{Clean, Fault}
-use Rattle.meaning.specs.Base.{pick, half, answer_of}
+use Rattle.meaning.specs.Base.{Outcome, pick, half, answer_of}
 use Rattle.meaning.specs.Book.{name_of}
 use Rattle.meaning.specs.Spell.{digits}
 use Rattle.meaning.specs.Rules.{verdict, open_rules}
@@ -20,8 +18,8 @@ table_part input = drop (model_length input) input
 
 -- the offending symbol: the place for 10 to 14 and 18, the second place for 15 and 16; else none
 abbrev pub offender : Outcome → ℕ
-offender Clean = 65535
-offender (Fault n p s) = pick ((leb 10 n && leb n 14) || eqb n 18) p (pick (eqb n 15 || eqb n 16) s 65535)
+offender (Ok _) = 65535
+offender (Err f) = pick ((leb 10 f.number && leb f.number 14) || eqb f.number 18) f.place (pick (eqb f.number 15 || eqb f.number 16) f.second 65535)
 
 -- a dash for no name
 abbrev pub or_dash : List ℕ → List ℕ

@@ -2,9 +2,7 @@
 use Rattle.std.specs.Prelude.{ℕ, Bool, false, ◌&&◌, ◌||◌, not, List, ◌++◌, eqb, leb, ltb, ℤ, length, drop}
 use Rattle.std.specs.Int.Signed.{le_z}
 use Rattle.tri.specs.Three.{and_of, or_of}
-use Rattle.meaning.specs.declared.Outcome.{Outcome}
-use Rattle.meaning.specs.declared.Outcome.TheVariants.{Fault}
-use Rattle.meaning.specs.Base.{pick, same_text, count_below, first_where, when, or_else, first_below, if_clean, open_base}
+use Rattle.meaning.specs.Base.{Outcome, Fault, pick, same_text, count_below, first_where, when, or_else, first_below, if_clean, open_base}
 use Rattle.meaning.specs.Book.{symbols, nodes, ranges, choices, type_of, three_type, range_symbol, low_of, high_of, range_condition, choice_kind, mandatory_of, choice_prompt, member_count, member_of, modules_of, modules_declared, selector_of, target_of, condition_of, book_fault, open_book}
 use Rattle.meaning.specs.Table.{Content, a_three, a_text, an_int, a_hex, content_of, value_of, table_fault, open_table}
 use Rattle.meaning.specs.Spell.{open_spell}

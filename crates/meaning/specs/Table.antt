@@ -1,13 +1,9 @@
 -- The configuration table: answers 5 and 6, and what stands at a symbol. Assumes nothing: these are definitions.
-use Rattle.std.specs.Prelude.{ℕ, zero, suc, ◌+◌, ◌-◌, ◌*◌, ◌<◌, ◌≤◌, ◌≡◌, Bool, true, ◌&&◌, ◌||◌, not, List, eqb, leb, ltb, ℤ, pos, negsuc, length, get_or}
+use Rattle.std.specs.Prelude.{ℕ, zero, suc, ◌+◌, ◌-◌, ◌*◌, ◌<◌, ◌≤◌, ◌≡◌, Bool, true, ◌&&◌, ◌||◌, not, List, eqb, leb, ltb, ℤ, pos, negsuc, length, get_or, Option, Some, None}
 use Rattle.tri.specs.Three.{tri_of}
-use Rattle.meaning.specs.declared.Outcome.{Outcome}
-use Rattle.meaning.specs.declared.Outcome.TheVariants.{Fault}
 use Rattle.meaning.specs.declared.Value.{Value}
 use Rattle.meaning.specs.declared.Value.TheVariants.{Three, Text, Int, Hex}
-use Rattle.meaning.specs.declared.Entry.{Entry}
-use Rattle.meaning.specs.declared.Entry.TheVariants.{Found, Refused}
-use Rattle.meaning.specs.Base.{pick, half, word, part, when, or_else, first_below}
+use Rattle.meaning.specs.Base.{Outcome, Fault, pick, half, word, part, when, or_else, first_below}
 
 -- how many entries a table says it has
 abbrev pub entries : List ℕ → ℕ
@@ -83,9 +79,9 @@ read_of t s =
     (pick (eqb k 3) (Hex (word t at)) (Three 0)))))
     (Three 0)
 
--- the entry of symbol s, of n: what stands there, or refused
-unfoldable pub entry_of : List ℕ → ℕ → ℕ → Entry
-entry_of t n s = pick (entry_ok t n s) (Found (read_of t s)) Refused
+-- the entry of symbol s, of n: what stands there, or none where it is refused
+unfoldable pub entry_of : List ℕ → ℕ → ℕ → Option Value
+entry_of t n s = pick (entry_ok t n s) (Some (read_of t s)) None
 
 -- a value by kind and content, wherever it was read
 pub data Content : Type 0 where
