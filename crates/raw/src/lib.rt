@@ -1,36 +1,33 @@
-// Reads, a store and a comparison of bytes that are total: no index to prove. And a fault under a test.
+// Reads, a store and a comparison of bytes that are total: no index to prove.
 //
 // Past a slice's end a byte is 0, a part has as much as there is, and a store changes nothing.
 #![tactic(auto)]
 
 ghost use Rattle.std.specs.Prelude.{◌≡◌, ◌+◌, ◌*◌, ◌<◌, get_or, set};
-ghost use Rattle.meaning.specs.Base.{half as half_of, word as word_of, part as part_of, same_text, when};
-ghost use Rattle.meaning.specs.declared.Outcome.TheVariants.{Fault};
-
-use meaning::Outcome;
+ghost use Rattle.meaning.specs.Base.{half as half_of, word as word_of, part as part_of, same_text};
 
 // The byte at i.
 pub fn byte(s: &[u8], i: usize) -> u8
     ensures { result ≡ get_or s.now i 0 }
 {
-    if i < s.len() { s[i] } else { 0 }
+    s.get(i).copied().unwrap_or(0)
 }
 
 // A byte as an index.
 pub fn wide(x: u8) -> usize
     ensures { (result ≡ x) × (result < 256) }
 {
-    x as usize
+    usize::from(x)
 }
 
 // Two bytes as a number, the lower first.
 fn joined(low: u8, high: u8) -> usize
     ensures { (result ≡ low + 256 * high) × (result < 65536) }
 {
-    (low as usize) + 256 * (high as usize)
+    usize::from(u16::from_le_bytes([low, high]))
 }
 
-// The u16 at i.
+// The u16 at i. Each branch tells that i + 1 is a number: a read by slice patterns loses that.
 pub fn half(s: &[u8], i: usize) -> usize
     ensures { (result ≡ half_of s.now i) × (result < 65536) }
 {
@@ -78,40 +75,14 @@ pub fn put(s: &mut [u8], i: usize, v: u8)
 pub fn part(s: &[u8], at: usize, n: usize) -> &[u8]
     ensures { result.now ≡ part_of s.now at n }
 {
-    if s.len() <= at {
-        return &s[0..0];
-    }
-    if s.len() - at <= n {
-        return &s[at..];
-    }
-    let end = at + n;
-    &s[at..end]
+    let from = at.min(s.len());
+    let end = from + n.min(s.len() - from);
+    &s[from..end]
 }
 
 // Whether two texts have the same bytes.
 pub fn same(a: &[u8], b: &[u8]) -> bool
     ensures { result ≡ same_text a.now b.now }
 {
-    if a.len() != b.len() {
-        return false;
-    }
-    let mut i: usize = 0;
-    while i < a.len() {
-        if a[i] != b[i] {
-            return false;
-        }
-        i += 1;
-    }
-    true
-}
-
-// A fault where `bad` holds.
-pub fn fault_if(bad: bool, number: u16, place: usize, second: usize) -> Outcome
-    requires { (place < 65536) × (second < 65536) }
-    ensures { result ≡ when bad (Fault number place second) }
-{
-    if bad {
-        return Outcome::Fault(number, place as u16, second as u16);
-    }
-    Outcome::Clean
+    a == b
 }
