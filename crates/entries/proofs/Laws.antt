@@ -12,13 +12,11 @@ use mir.ValLaws.{to_z-of_z}
 use lib.ListN.{get_or}
 use borrow.Author.Tests.{lt-ltb, le-ltb, ne_eqb, ltb-true, ltb-false}
 use Rattle.tri.specs.Three.{tri_of}
-use Rattle.meaning.specs.declared.Outcome.TheVariants.{Clean, Fault}
+use Rattle.std.specs.Prelude.{Some, None, is_none}
 use Rattle.meaning.specs.declared.Value.{Value}
 use Rattle.meaning.specs.declared.Value.TheVariants.{Three, Text, Int, Hex}
-use Rattle.meaning.specs.declared.Entry.{Entry}
-use Rattle.meaning.specs.declared.Entry.TheVariants.{Found, Refused}
-use Rattle.meaning.specs.Base.{pick, word, when}
-use Rattle.meaning.specs.Table.{entries, kind_of, length_of, start_of, body_due, entry_ok, entry_at, signed_of, read_of, entry_of, content_in, content_of, three_in, value_of}
+use Rattle.meaning.specs.Base.{pick, word}
+use Rattle.meaning.specs.Table.{entries, kind_of, length_of, start_of, body_due, entry_ok, signed_of, read_of, entry_of, content_in, content_of, three_in, value_of}
 
 pub due_after : (t : List ℕ) (n s : ℕ) {r : ℕ} → 0 < s → r ≡ start_of t (s - 1) + length_of t (s - 1) → r ≡ body_due t n s
 unfolding body_due
@@ -61,35 +59,14 @@ module _ (t : List ℕ) (s : ℕ) {n : ℕ} (en : n ≡ entries t) where
     unfolding read_of
     value_none a b c d = rw (← en, lt-ltb s n lt, ← ek, ne_eqb k 0 a, ne_eqb k 1 b, ne_eqb k 2 c, ne_eqb k 3 d)
 
--- THE ENTRY, found or refused, and answer 6 by it
-module _ (t : List ℕ) (n s : ℕ) {ok : Bool} (eo : ok ≡ entry_ok t n s) where
-  pub entry_found : {v : Value} → ok ≡ true → v ≡ read_of t s → Found v ≡ entry_of t n s
-  unfolding entry_of
-  entry_found h ev = rw (← eo, h, ev)
-
-  pub entry_refused : ok ≡ false → Refused ≡ entry_of t n s
-  unfolding entry_of
-  entry_refused h = rw (← eo, h)
-
-not_refused : (v : Value) → Found v ≡ Refused → ⊥
-not_refused v e = let z : ◌≡◌ {A = ℕ} 0 1 = cc in omega arith
-
-module _ (t : List ℕ) (n s : ℕ) {e : Entry} (ee : e ≡ entry_of t n s) where
-  pub at_found : {v : Value} → e ≡ Found v → Clean ≡ entry_at t n s
-  unfolding entry_at entry_of when
-  at_found {v} f = by (entry_ok t n s) (sym f ∙ ee)
-    where
-      by : (b : Bool) → Found v ≡ pick b (Found (read_of t s)) Refused → Clean ≡ when (not b) (Fault 6 s 65535)
-      by true h = refl
-      by false h = absurd (not_refused v h)
-
-  pub at_refused : e ≡ Refused → Fault 6 s 65535 ≡ entry_at t n s
-  unfolding entry_at entry_of when
-  at_refused f = by (entry_ok t n s) (sym f ∙ ee)
-    where
-      by : (b : Bool) → Refused ≡ pick b (Found (read_of t s)) Refused → Fault 6 s 65535 ≡ when (not b) (Fault 6 s 65535)
-      by true h = absurd (not_refused (read_of t s) (sym h))
-      by false h = refl
+-- THE ENTRY: none exactly where it is not well formed
+pub entry_none : (t : List ℕ) (n s : ℕ) → is_none (entry_of t n s) ≡ not (entry_ok t n s)
+unfolding entry_of
+entry_none t n s = by (entry_ok t n s)
+  where
+    by : (b : Bool) → is_none (pick b (Some (read_of t s)) None) ≡ not b
+    by true = refl
+    by false = refl
 
 -- AS ONE OF THE THREE: an entry of another kind is n
 others : (t : List ℕ) (a b c : Bool) (at l : ℕ) (z : ℤ) (h : ℕ) → 0 ≡ three_in (content_in t (pick a (Text at l) (pick b (Int z) (pick c (Hex h) (Three 0)))))

@@ -8,7 +8,7 @@ ghost use Rattle.std.specs.Prelude.{◌≡◌, ◌<◌, ◌^◌};
 ghost use Rattle.meaning.specs.Table.{entries as entries_of, kind_of, length_of, start_of, body_due, length_fits, byte_fits, entry_ok};
 ghost use Rattle.meaning.specs.Table.{contents_fault, entry_at, bodies_fault, table_fault, signed_of, read_of, entry_of, value_of};
 
-use meaning::{Entry, Outcome, Value};
+use meaning::{Outcome, Refusal, Value, first_fault, refuse_if};
 use tri::Tri;
 
 // How many entries a table says it has.
@@ -116,15 +116,12 @@ pub fn value(t: &[u8], s: usize) -> Value
     }
 }
 
-// The entry of symbol s, of n.
-pub fn entry(t: &[u8], n: usize, s: usize) -> Entry
+// The entry of symbol s, of n: none where it is refused.
+pub fn entry(t: &[u8], n: usize, s: usize) -> Option<Value>
     requires { (n < 2 ^ 32) × (s < 2 ^ 32) }
     ensures { result ≡ entry_of t.now n s }
 {
-    if entry_ok(t, n, s) {
-        return Entry::Found(value(t, s));
-    }
-    Entry::Refused
+    entry_ok(t, n, s).then_some(value(t, s))
 }
 
 // A symbol's value as one of the three: n where it is of another kind.
@@ -149,7 +146,7 @@ fn contents_fault(t: &[u8], n: usize) -> Outcome
 {
     let l = t.len();
     let bad = (l < 4) | (raw::half(t, 0) != l) | (entries(t) != n) | (l < 4 + 4 * n);
-    raw::fault_if(bad, 5, 0, 65535)
+    refuse_if(bad, Refusal::Contents, 0)
 }
 
 // 6 at symbol s, if its entry is refused.
@@ -157,11 +154,7 @@ fn entry_at(t: &[u8], n: usize, s: usize) -> Outcome
     requires { (n < 65536) × (s < 65536) }
     ensures { result ≡ entry_at t.now n s }
 {
-    let e = entry(t, n, s);
-    match e {
-        Entry::Found(_) => Outcome::Clean,
-        Entry::Refused => Outcome::Fault(6, s as u16, 65535),
-    }
+    refuse_if(entry(t, n, s).is_none(), Refusal::Entry, s)
 }
 
 // 5, last: the bodies end before the total.
@@ -170,7 +163,7 @@ fn bodies_fault(t: &[u8], n: usize) -> Outcome
     ensures { result ≡ bodies_fault t.now n }
 {
     let bad = body_due(t, n, n) != t.len();
-    raw::fault_if(bad, 5, 0, 65535)
+    refuse_if(bad, Refusal::Contents, 0)
 }
 
 // The first fault of a table for n symbols: 5 and 6.
@@ -178,15 +171,7 @@ pub fn fault(t: &[u8], n: usize) -> Outcome
     requires { n < 65536 }
     ensures { result ≡ table_fault t.now n }
 {
-    let contents = contents_fault(t, n);
-    if let Outcome::Fault(_, _, _) = contents {
-        return contents;
-    }
-    for s in 0..n {
-        let at = entry_at(t, n, s);
-        if let Outcome::Fault(_, _, _) = at {
-            return at;
-        }
-    }
+    contents_fault(t, n)?;
+    first_fault(n, |s| entry_at(t, n, s))?;
     bodies_fault(t, n)
 }

@@ -6,9 +6,10 @@ use mathlib.Core.Logic.{◌⊎◌, inl, inr, ◌↔◌, ⊎_elim}
 use native.Mathlib.Nat.{not-suc-le-zero, eq-or-lt_of_le, le_of_suc-le-suc}
 use native.Mathlib.Omega.{arith}
 use native.Mathlib.Numerals.{add-one}
-use Rattle.std.specs.Prelude.{Ok, Err}
+use Rattle.std.specs.Bool.{then_some}
+use Rattle.std.specs.Prelude.{Some, None, Ok, Err}
 use Rattle.meaning.specs.declared.Answer.{Answer}
-use Rattle.meaning.specs.Base.{Outcome, Clean, Fault, when, or_else, first_below}
+use Rattle.meaning.specs.Base.{Outcome, Clean, Fault, pick, when, or_else, first_below}
 
 abbrev pub IsClean : Outcome → Type 0
 IsClean a = a ≡ Clean
@@ -162,3 +163,8 @@ when_true b a e = rw e
 pub when_false : (b : Bool) (a : Outcome) → b ≡ false → Clean ≡ when b a
 unfolding when
 when_false b a e = rw e
+
+-- a value where a test holds, as the library and as the definitions have it
+pub then_picked : {A : Type 0} (b : Bool) (a : A) → then_some b a ≡ pick b (Some a) None
+then_picked true a = refl
+then_picked false a = refl

@@ -1,9 +1,9 @@
--- `entries::entry` meets its contract: found where it is well formed.
-use Rattle.entries.proofs.Laws.{entry_found, entry_refused}
+-- `entries::entry` meets its contract: what stands there where the entry is well formed, else none.
+use mathlib.Core.Path.{◌∙◌}
+use Rattle.meaning.specs.Table.{entry_of}
+use Rattle.meaning.proofs.First.{then_picked}
 use Rattle.entries.proofs.entry.Goals as goal
 
-pub returns-then-entry_ok : goal.returns-then-entry_ok
-returns-then-entry_ok c = entry_found _ _ _ c.entry_ok.ensures c.if-entry_ok.true c.value.ensures
-
 pub returns : goal.returns
-returns c = entry_refused _ _ _ c.entry_ok.ensures c.if-entry_ok.false
+unfolding entry_of
+returns c = rw (← c.entry_ok.ensures, ← c.value.ensures) (c.then_some.ensures ∙ then_picked _ _)

@@ -1,9 +1,9 @@
--- `entries::entry_at` meets its contract: a fault where the entry is refused.
-use Rattle.entries.proofs.Laws.{at_found, at_refused}
+-- `entries::entry_at` meets its contract: a fault where there is no entry.
+use Rattle.std.proofs.Common.{rules}
+use Rattle.meaning.specs.Table.{entry_at}
+use Rattle.entries.proofs.Laws.{entry_none}
 use Rattle.entries.proofs.entry_at.Goals as goal
 
-pub returns-in-Found : goal.returns-in-Found
-returns-in-Found c = at_found _ _ _ c.entry-e.ensures c.in-Found.is
-
-pub returns-in-Refused : goal.returns-in-Refused
-returns-in-Refused c = at_refused _ _ _ c.entry-e.ensures c.in-Refused.is
+pub returns : goal.returns
+unfolding entry_at
+returns c = rw (← entry_none c.args.t.now c.args.n c.args.s) (search rules)
