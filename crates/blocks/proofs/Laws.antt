@@ -10,8 +10,8 @@ use lib.ListN.{length, get_or, set, replicate, get_or-replicate}
 use lib.Seq.{get_or-set_same, get_or-set_other}
 use borrow.Author.Tests.{ne_eqb, eqb-true, eqb-false, ltb-true, ltb-false}
 use Rattle.tri.specs.Three.{or_of}
-use Rattle.meaning.specs.declared.Outcome.{Outcome}
-use Rattle.meaning.specs.declared.Outcome.TheVariants.{Clean, Fault}
+use Rattle.meaning.specs.Base.{Outcome}
+use Rattle.meaning.specs.Base.{Clean, Fault}
 use Rattle.meaning.specs.Base.{pick, fold, when, or_else, first_below}
 use Rattle.meaning.specs.Book.{selects, defaults, ranges, target_of, default_symbol, default_value, three_type}
 use Rattle.meaning.specs.Table.{Content, a_text, content_of, value_of}

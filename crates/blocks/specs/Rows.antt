@@ -1,6 +1,6 @@
 -- What the records of a section come to for each symbol of a block, and which default is a symbol's first that applies. Assumes nothing: these are definitions.
 use Rattle.std.specs.Prelude.{ℕ, suc, ◌+◌, ◌-◌, ◌%◌, ◌<◌, ◌≡◌, List, eqb, get_or}
-use Rattle.meaning.specs.declared.Outcome.{Outcome}
+use Rattle.meaning.specs.Base.{Outcome}
 use Rattle.meaning.specs.Base.{pick, fold}
 use Rattle.meaning.specs.Book.{three_type}
 use Rattle.meaning.specs.Values.{default_from, condition_value}

@@ -6,7 +6,7 @@
 
 ghost use Rattle.std.specs.Prelude.{◌≡◌, [], ◌+◌, ◌<◌, ◌≤◌, min, ltb};
 ghost use Rattle.tri.specs.Three.{or_of};
-ghost use Rattle.meaning.specs.declared.Outcome.TheVariants.{Clean};
+ghost use Rattle.meaning.specs.Base.{Clean};
 ghost use Rattle.meaning.specs.Base.{pick, first_below};
 ghost use Rattle.meaning.specs.Book.{symbols as symbols_of, default_value};
 ghost use Rattle.meaning.specs.Table.{a_text};
@@ -106,12 +106,9 @@ fn block_fault(m: &[u8], t: &[u8], vs: &[u8], base: usize, end: usize) -> Outcom
     }
     for s in base..end {
         let i = s - base;
-        let at = own_fault(m, t, vs, s, low[i], first[i]);
-        if let Outcome::Fault(_, _, _) = at {
-            return at;
-        }
+        own_fault(m, t, vs, s, low[i], first[i])?;
     }
-    Outcome::Clean
+    Ok(())
 }
 
 // 11, 12 and 13 of the symbols below n, symbol by symbol.
@@ -122,10 +119,7 @@ fn own_faults(m: &[u8], t: &[u8], vs: &[u8], n: usize) -> Outcome
     let mut base: usize = 0;
     while 96 < n - base {
         let end = base + 96;
-        let at = block_fault(m, t, vs, base, end);
-        if let Outcome::Fault(_, _, _) = at {
-            return at;
-        }
+        block_fault(m, t, vs, base, end)?;
         base = end;
     }
     block_fault(m, t, vs, base, n)
@@ -145,12 +139,9 @@ pub fn fault(m: &[u8], t: &[u8], vs: &[u8]) -> Outcome
 {
     let n = fields::symbols(m);
     let off = symbol_rules::first_off(m, t, vs);
-    let own = own_faults(m, t, vs, end_at(off, n));
-    if let Outcome::Fault(_, _, _) = own {
-        return own;
-    }
+    own_faults(m, t, vs, end_at(off, n))?;
     if n <= off {
-        return Outcome::Clean;
+        return Ok(());
     }
     symbol_rules::ranges_fault(m, t, vs, off)
 }

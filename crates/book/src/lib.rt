@@ -12,7 +12,7 @@ ghost use Rattle.meaning.specs.Book.{modules_fault, book_fault, name_of, members
 ghost use Rattle.members.specs.Old.{FirstOld};
 ghost use Rattle.book.specs.Turns.{InTurn};
 
-use meaning::Outcome;
+use meaning::{Outcome, Refusal, refuse_if, refuse_with_if, turns};
 
 // 1: too short, or unlike its total.
 fn length_fault(m: &[u8]) -> Outcome
@@ -20,7 +20,7 @@ fn length_fault(m: &[u8]) -> Outcome
 {
     let n = m.len();
     let bad = (n < 36) | (n != fields::total(m));
-    raw::fault_if(bad, 1, 0, 65535)
+    refuse_if(bad, Refusal::Length, 0)
 }
 
 // Where section k must start, of those from 1 to 9: behind the one before it.
@@ -42,7 +42,7 @@ fn chain_at(m: &[u8], k: usize) -> Outcome
 {
     let section = k + 1;
     let bad = fields::start(m, section) != due(m, section);
-    raw::fault_if(bad, 2, section, 65535)
+    refuse_if(bad, Refusal::Section, section)
 }
 
 // 2 at section 8, if the last section does not end at the total.
@@ -50,19 +50,14 @@ fn end_fault(m: &[u8]) -> Outcome
     ensures { result ≡ end_fault m.now }
 {
     let bad = due(m, 9) != fields::total(m);
-    raw::fault_if(bad, 2, 8, 65535)
+    refuse_if(bad, Refusal::Section, 8)
 }
 
 // 2: the first section out of place.
 fn chain_fault(m: &[u8]) -> Outcome
     ensures { result ≡ chain_fault m.now }
 {
-    for k in 0..8 {
-        let at = chain_at(m, k);
-        if let Outcome::Fault(_, _, _) = at {
-            return at;
-        }
-    }
+    turns::first_fault(8, |k| chain_at(m, k))?;
     end_fault(m)
 }
 
@@ -72,7 +67,7 @@ fn record_at(m: &[u8], k: usize, i: usize) -> Outcome
     ensures { result ≡ record_at m.now k i }
 {
     let bad = !records::record_ok(m, k, i);
-    raw::fault_if(bad, 3, k, i)
+    refuse_with_if(bad, Refusal::Record, k, i)
 }
 
 // 3: the first malformed record of section k.
@@ -83,14 +78,7 @@ fn section_fault(m: &[u8], k: usize) -> Outcome
     if k == 1 {
         return names::fault(m);
     }
-    let n = fields::count(m, k);
-    for i in 0..n {
-        let at = record_at(m, k, i);
-        if let Outcome::Fault(_, _, _) = at {
-            return at;
-        }
-    }
-    Outcome::Clean
+    turns::first_fault(fields::count(m, k), |i| record_at(m, k, i))
 }
 
 // 3 behind the last choice, if the choices do not use all members.
@@ -99,7 +87,7 @@ fn unused_fault(m: &[u8]) -> Outcome
 {
     let n = fields::choices(m);
     let bad = records::member_due(m, n) != fields::members(m);
-    raw::fault_if(bad, 3, 6, n)
+    refuse_with_if(bad, Refusal::Record, 6, n)
 }
 
 // 3 at choice c's member j, if it is malformed. It stands no later than `old`, the first member record whose symbol is in an earlier one.
@@ -109,7 +97,7 @@ fn member_at(m: &[u8], c: usize, j: usize, old: usize) -> Outcome
 {
     let i = fields::first_member(m, c) + j;
     let good = records::member_fits(m, c, i) & (i != old);
-    raw::fault_if(!good, 3, 7, i)
+    refuse_with_if(!good, Refusal::Record, 7, i)
 }
 
 // 3: the first malformed member of choice c. Its members start no later than `old`.
@@ -117,14 +105,7 @@ fn choice_members_fault(m: &[u8], c: usize, old: usize) -> Outcome
     requires { (c < 65536) × (first_member m.now c + member_count m.now c ≤ members_of m.now) × (members_of m.now < 65536) × FirstOld m.now old × (first_member m.now c ≤ old) }
     ensures { result ≡ choice_members_fault m.now c }
 {
-    let n = fields::member_count(m, c);
-    for j in 0..n {
-        let at = member_at(m, c, j, old);
-        if let Outcome::Fault(_, _, _) = at {
-            return at;
-        }
-    }
-    Outcome::Clean
+    turns::first_fault(fields::member_count(m, c), |j| member_at(m, c, j, old))
 }
 
 // 3: the first malformed member, where the choices take the members in turn.
@@ -132,42 +113,23 @@ fn members_fault(m: &[u8]) -> Outcome
     requires { InTurn m.now }
     ensures { result ≡ members_fault m.now }
 {
-    let n = fields::choices(m);
     let old = members::first_old(m);
-    for c in 0..n {
-        let at = choice_members_fault(m, c, old);
-        if let Outcome::Fault(_, _, _) = at {
-            return at;
-        }
-    }
-    Outcome::Clean
+    turns::first_fault(fields::choices(m), |c| choice_members_fault(m, c, old))
 }
 
 // 3: the first malformed record of sections 1 to 6.
 fn sections_fault(m: &[u8]) -> Outcome
     ensures { result ≡ first_below (section_after m.now) 6 }
 {
-    for k in 0..6 {
-        let at = section_fault(m, k + 1);
-        if let Outcome::Fault(_, _, _) = at {
-            return at;
-        }
-    }
-    Outcome::Clean
+    turns::first_fault(6, |k| section_fault(m, k + 1))
 }
 
 // 3: the first malformed record.
 fn records_fault(m: &[u8]) -> Outcome
     ensures { result ≡ records_fault m.now }
 {
-    let sections = sections_fault(m);
-    if let Outcome::Fault(_, _, _) = sections {
-        return sections;
-    }
-    let unused = unused_fault(m);
-    if let Outcome::Fault(_, _, _) = unused {
-        return unused;
-    }
+    sections_fault(m)?;
+    unused_fault(m)?;
     members_fault(m)
 }
 
@@ -178,25 +140,16 @@ fn modules_fault(m: &[u8]) -> Outcome
     let s = fields::modules(m);
     let boolean = (s < fields::symbols(m)) & (fields::type_of(m, s) == 0);
     let bad = (s != 65535) & !boolean;
-    raw::fault_if(bad, 4, s, 65535)
+    refuse_if(bad, Refusal::ModulesSymbol, s)
 }
 
 // The first fault of a book: 1 to 4.
 pub fn fault(m: &[u8]) -> Outcome
     ensures { result ≡ book_fault m.now }
 {
-    let length = length_fault(m);
-    if let Outcome::Fault(_, _, _) = length {
-        return length;
-    }
-    let chain = chain_fault(m);
-    if let Outcome::Fault(_, _, _) = chain {
-        return chain;
-    }
-    let records = records_fault(m);
-    if let Outcome::Fault(_, _, _) = records {
-        return records;
-    }
+    length_fault(m)?;
+    chain_fault(m)?;
+    records_fault(m)?;
     modules_fault(m)
 }
 
@@ -205,12 +158,11 @@ pub fn fault(m: &[u8]) -> Outcome
 pub fn name(model: &[u8], index: usize) -> &[u8]
     ensures { result.now ≡ name_of model.now index }
 {
-    let book = fault(model);
-    if let Outcome::Fault(_, _, _) = book {
-        return raw::part(model, 0, 0);
+    if fault(model).is_err() {
+        return &[];
     }
     if fields::symbols(model) <= index {
-        return raw::part(model, 0, 0);
+        return &[];
     }
     fields::spelled_name(model, index)
 }

@@ -5,8 +5,8 @@ use mathlib.Core.List.{List}
 use Prim.Native.Nat.{ℕ}
 use lib.Dec.{eqb, leb, ltb}
 use borrow.Author.Tests.{not-true}
-use Rattle.meaning.specs.declared.Outcome.{Outcome}
-use Rattle.meaning.specs.declared.Outcome.TheVariants.{Clean, Fault}
+use Rattle.meaning.specs.Base.{Outcome}
+use Rattle.meaning.specs.Base.{Clean, Fault}
 use Rattle.meaning.specs.Base.{when, first_where}
 use Rattle.meaning.specs.Book.{choice_kind, choice_prompt, member_count, member_of}
 use Rattle.meaning.specs.Values.{val}

@@ -8,7 +8,7 @@ ghost use Rattle.std.specs.Prelude.{◌≡◌, ◌<◌, ◌^◌};
 ghost use Rattle.meaning.specs.Table.{entries as entries_of, kind_of, length_of, start_of, body_due, length_fits, byte_fits, entry_ok};
 ghost use Rattle.meaning.specs.Table.{contents_fault, entry_at, bodies_fault, table_fault, signed_of, read_of, entry_of, value_of};
 
-use meaning::{Outcome, Refusal, Value, first_fault, refuse_if};
+use meaning::{Outcome, Refusal, Value, refuse_if, turns};
 use tri::Tri;
 
 // How many entries a table says it has.
@@ -117,6 +117,7 @@ pub fn value(t: &[u8], s: usize) -> Value
 }
 
 // The entry of symbol s, of n: none where it is refused.
+#[tactic(auto, unfolding(meaning::specs::Table::entry_of, meaning::specs::Base::pick))]
 pub fn entry(t: &[u8], n: usize, s: usize) -> Option<Value>
     requires { (n < 2 ^ 32) × (s < 2 ^ 32) }
     ensures { result ≡ entry_of t.now n s }
@@ -150,6 +151,7 @@ fn contents_fault(t: &[u8], n: usize) -> Outcome
 }
 
 // 6 at symbol s, if its entry is refused.
+#[tactic(auto, unfolding(meaning::specs::Table::entry_at, meaning::specs::Table::entry_of, meaning::specs::Base::when, meaning::specs::Base::pick))]
 fn entry_at(t: &[u8], n: usize, s: usize) -> Outcome
     requires { (n < 65536) × (s < 65536) }
     ensures { result ≡ entry_at t.now n s }
@@ -167,11 +169,12 @@ fn bodies_fault(t: &[u8], n: usize) -> Outcome
 }
 
 // The first fault of a table for n symbols: 5 and 6.
+#[tactic(auto, unfolding(meaning::specs::Table::table_fault, meaning::specs::Base::or_else))]
 pub fn fault(t: &[u8], n: usize) -> Outcome
     requires { n < 65536 }
     ensures { result ≡ table_fault t.now n }
 {
     contents_fault(t, n)?;
-    first_fault(n, |s| entry_at(t, n, s))?;
+    turns::first_fault(n, |s| entry_at(t, n, s))?;
     bodies_fault(t, n)
 }

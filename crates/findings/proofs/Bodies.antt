@@ -7,8 +7,8 @@ use native.Mathlib.Omega.{arith}
 use lib.Dec.{eqb}
 use lib.ListN.{length, get_or, take, drop, drop_of_length-le}
 use borrow.Author.Tests.{eq-eqb, ne_eqb, lt-ltb, le-ltb}
-use Rattle.meaning.specs.declared.Outcome.{Outcome}
-use Rattle.meaning.specs.declared.Outcome.TheVariants.{Clean, Fault}
+use Rattle.meaning.specs.Base.{Outcome}
+use Rattle.meaning.specs.Base.{Clean, Fault}
 use Rattle.meaning.specs.declared.Walked.TheVariants.{Next}
 use Rattle.meaning.specs.Base.{half, when}
 use Rattle.meaning.specs.Book.{symbols, nodes}

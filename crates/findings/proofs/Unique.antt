@@ -2,7 +2,7 @@
 use mathlib.Core.Path.{◌≡◌, sym, ◌∙◌}
 use mathlib.Core.List.{List}
 use Prim.Native.Nat.{ℕ}
-use Rattle.meaning.specs.declared.Outcome.{Outcome}
+use Rattle.meaning.specs.Base.{Outcome}
 use Rattle.tri.specs.Once.{OnceIn}
 use Rattle.findings.specs.Found.{Found}
 use Rattle.findings.proofs.check.Kinds as Kinds

@@ -1,6 +1,6 @@
 -- What the finding check owes its caller: the outcome, and every byte of both rooms. Assumes nothing: this is a definition.
 use Rattle.std.specs.Prelude.{ℕ, ◌≡◌, List, length}
-use Rattle.meaning.specs.declared.Outcome.{Outcome}
+use Rattle.meaning.specs.Base.{Outcome}
 use Rattle.meaning.specs.Findings.{finding_outcome, finding_node_work, finding_symbol_work}
 
 -- of model m, finding f, node work w and symbol work z: outcome r, and both rooms afterwards

@@ -14,7 +14,7 @@ ghost use Rattle.sets.specs.Work.{blank_of};
 ghost use Rattle.findings.specs.Walks.{decoded, walked, splits_at, StandsIn};
 ghost use Rattle.findings.specs.Found.{Found};
 
-use meaning::{Head, Outcome};
+use meaning::{Head, Outcome, Refusal, refuse, refuse_if};
 
 // 21: the finding's length, its select, its kind, its zero.
 fn head_fault(m: &[u8], f: &[u8]) -> Outcome
@@ -23,7 +23,7 @@ fn head_fault(m: &[u8], f: &[u8]) -> Outcome
     let n = f.len();
     let select = raw::half(f, 0) < fields::selects(m);
     let bad = (n < 4) | (65535 < n) | !select | (1 < raw::byte(f, 2)) | (raw::byte(f, 3) != 0);
-    raw::fault_if(bad, 21, 0, 65535)
+    refuse_if(bad, Refusal::Head, 0)
 }
 
 // Whether a leaf's rule may stand at its place, in a finding about select q.
@@ -172,12 +172,12 @@ fn walk_fault(f: &[u8], end: usize) -> Outcome
     ensures { result ≡ walk_fault f.now (decoded end) }
 {
     if end < 65536 {
-        return raw::fault_if(end != f.len(), 22, end, 65535);
+        return refuse_if(end != f.len(), Refusal::Tree, end);
     }
     if end < 131072 {
-        return raw::fault_if(true, 22, end - 65536, 65535);
+        return refuse(Refusal::Tree, end - 65536);
     }
-    raw::fault_if(true, 23, end - 131072, 65535)
+    refuse(Refusal::Leaf, end - 131072)
 }
 
 // 22 and 23: a clearance, over rooms of one byte a node and a symbol.
@@ -207,17 +207,11 @@ fn witness_fault(m: &[u8], f: &[u8], w: &mut [u8]) -> Outcome
     ensures { (result ≡ witness_fault m.now f.now) × (length w.new ≡ nodes_of m.now) }
 {
     let table = &f[4..];
-    let readable = entries::fault(table, fields::symbols(m));
-    if let Outcome::Fault(_, _, _) = readable {
-        return readable;
-    }
+    entries::fault(table, fields::symbols(m))?;
     values::fill(m, table, w);
-    let rules = rules::fault(m, table, w);
-    if let Outcome::Fault(_, _, _) = rules {
-        return rules;
-    }
+    rules::fault(m, table, w)?;
     let select = raw::half(f, 0);
-    raw::fault_if(!unmet(m, table, w, select), 24, select, 65535)
+    refuse_if(!unmet(m, table, w, select), Refusal::Met, select)
 }
 
 // What a finding's body is judged to be, by its kind.
@@ -248,21 +242,15 @@ fn body(m: &[u8], f: &[u8], w: &mut [u8], ys: &mut [u8]) -> Outcome
 pub fn check(model: &[u8], finding: &[u8], nodework: &mut [u8], symbolwork: &mut [u8]) -> Outcome
     ensures { Found model.now finding.now nodework.old symbolwork.old result nodework.new symbolwork.new }
 {
-    let book = book::fault(model);
-    if let Outcome::Fault(_, _, _) = book {
-        return book;
-    }
-    let head = head_fault(model, finding);
-    if let Outcome::Fault(_, _, _) = head {
-        return head;
-    }
+    book::fault(model)?;
+    head_fault(model, finding)?;
     let nodes = fields::nodes(model);
     if nodework.len() < nodes {
-        return Outcome::Fault(7, nodes as u16, 65535);
+        return refuse(Refusal::NodeRoom, nodes);
     }
     let symbols = fields::symbols(model);
     if symbolwork.len() < symbols {
-        return Outcome::Fault(8, symbols as u16, 65535);
+        return refuse(Refusal::SymbolRoom, symbols);
     }
     body(
         model,

@@ -10,8 +10,8 @@ use lib.Seq.{take_all, length-take-le, take_at, drop_at, drop-drop, paste, lengt
 use native.Mathlib.Numerals.{add-one}
 use borrow.Author.Tests.{lt-ltb, le-ltb}
 use Rattle.meaning.specs.declared.Answer.{Answer}
-use Rattle.meaning.specs.declared.Outcome.{Outcome}
-use Rattle.meaning.specs.declared.Outcome.TheVariants.{Clean, Fault}
+use Rattle.meaning.specs.Base.{Outcome}
+use Rattle.meaning.specs.Base.{Clean, Fault}
 use Rattle.meaning.specs.Base.{pick, half, part, if_clean, answer_of}
 use Rattle.meaning.specs.Book.{name_of, byte_in, book_fault, symbols, start, width, spelled_name, name_length, name_start}
 use Rattle.meaning.specs.Rules.{node_work}

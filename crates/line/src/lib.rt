@@ -6,7 +6,7 @@
 ghost use Rattle.std.specs.Prelude.{◌≡◌, ◌+◌, ◌<◌, ◌≤◌, ◌∷◌, [], ◌++◌, length, drop};
 ghost use Rattle.meaning.specs.Base.{answer_of};
 ghost use Rattle.meaning.specs.Book.{name_of};
-ghost use Rattle.meaning.specs.declared.Outcome.TheVariants.{Fault};
+ghost use Rattle.meaning.specs.Base.{Fault};
 ghost use Rattle.meaning.specs.Program.{model_length, offender, or_dash, decimal};
 ghost use Rattle.line.specs.Written.{Written, Lined};
 ghost use Rattle.line.specs.Numbers.{three_numbers};

@@ -3,12 +3,14 @@
 // Everything above this crate is proved against those definitions; all that runs here makes an outcome, and its three numbers.
 #![tactic(auto)]
 
-ghost use Rattle.std.specs.Prelude.{◌≡◌, ◌<◌, ℕ};
+ghost use Rattle.std.specs.Prelude.{◌≡◌, ◌<◌};
 ghost use Rattle.meaning.specs.declared.Answer.{Answer};
-ghost use Rattle.meaning.specs.Base.{Outcome as Found, Fault as fault_of, when, first_below, answer_of, packed};
+ghost use Rattle.meaning.specs.Base.{Fault as fault_of, when, answer_of, packed};
 ghost use Rattle.meaning.specs.Numbers.{number_of};
 
 use std::marker::Model;
+
+pub mod turns;
 
 // The three numbers that a caller gets.
 #[derive(Clone, Copy)]
@@ -126,17 +128,6 @@ pub fn refuse_with_if(bad: bool, refusal: Refusal, place: usize, second: usize) 
 {
     if bad {
         return refuse_with(refusal, place, second);
-    }
-    Ok(())
-}
-
-// The first fault of those at the places below n.
-pub fn first_fault<F: Fn(usize) -> Outcome>(n: usize, fault_at: F) -> Outcome
-    requires { (i : ℕ) → i < n → F.pre fault_at i }
-    ensures { (t : ℕ → Found) → ((i : ℕ) (r : Found) → i < n → F.post fault_at i r → r ≡ t i) → result ≡ first_below t n }
-{
-    for i in 0..n {
-        fault_at(i)?;
     }
     Ok(())
 }

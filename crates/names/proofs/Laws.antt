@@ -12,7 +12,7 @@ use lib.ListN.{length, get_or, set, replicate, get_or-replicate, length-set, get
 use lib.Seq.{get_or-set_same, get_or-set_other}
 use borrow.Author.Tests.{eq-eqb, eqb-true, eqb-false, ltb-true, ltb-false}
 use borrow.Author.Count.{below_more}
-use Rattle.meaning.specs.declared.Outcome.TheVariants.{Fault}
+use Rattle.meaning.specs.Base.{Fault}
 use Rattle.meaning.specs.Base.{pick, same_text, when}
 use Rattle.meaning.specs.Book.{nodes, type_of, prompt_of, depend_of, spelled_name, name_ok, other_name, new_name, symbol_ok, record_ok, record_at}
 use Rattle.meaning.proofs.Below.{all_every, all_stop}

@@ -5,12 +5,12 @@
 #![tactic(auto)]
 
 ghost use Rattle.std.specs.Prelude.{◌≡◌, true, false, ℕ, ◌+◌, ◌/◌, ◌^◌, min, ◌<◌, ◌≤◌, length};
-ghost use Rattle.meaning.specs.declared.Outcome.TheVariants.{Clean};
+ghost use Rattle.meaning.specs.Base.{Clean};
 ghost use Rattle.meaning.specs.Base.{word, first_below};
 ghost use Rattle.meaning.specs.Book.{start as start_of, text_start, spelled_name, new_name, record_at, section_fault};
 ghost use Rattle.names.specs.Keys.{mix, few as few_of, key_of, link_of, first_mark, second_mark, Marked, Adds, Linked, Headed, AllMarked, Different, Walk};
 
-use meaning::Outcome;
+use meaning::{Outcome, Refusal, refuse_with, refuse_with_if};
 
 // How many names a block has at most. No name of a block has this number, so it is also the answer where none is found.
 const BLOCK: usize = 224;
@@ -275,7 +275,7 @@ fn symbol_at(m: &[u8], s: usize) -> Outcome
     requires { (s < 65536) × (new_name m.now s ≡ true) }
     ensures { result ≡ record_at m.now 1 s }
 {
-    raw::fault_if(!records::symbol_fits(m, s), 3, 1, s)
+    refuse_with_if(!records::symbol_fits(m, s), Refusal::Record, 1, s)
 }
 
 // 3: the first malformed symbol below end, where there is none below base and the names from base on are new.
@@ -284,12 +284,9 @@ fn block_fault(m: &[u8], base: usize, end: usize) -> Outcome
     ensures { result ≡ first_below (record_at m.now 1) end }
 {
     for s in base..end {
-        let at = symbol_at(m, s);
-        if let Outcome::Fault(_, _, _) = at {
-            return at;
-        }
+        symbol_at(m, s)?;
     }
-    Outcome::Clean
+    Ok(())
 }
 
 // Where the block from base on ends.
@@ -309,14 +306,11 @@ pub fn fault(m: &[u8]) -> Outcome
     while base < n {
         let end = end_of(base, n);
         let old = base + first_old(m, base, end - base);
-        let at = block_fault(m, base, old);
-        if let Outcome::Fault(_, _, _) = at {
-            return at;
-        }
+        block_fault(m, base, old)?;
         if old < end {
-            return Outcome::Fault(3, 1, old as u16);
+            return refuse_with(Refusal::Record, 1, old);
         }
         base = end;
     }
-    Outcome::Clean
+    Ok(())
 }

@@ -4,8 +4,8 @@ use mathlib.Core.List.{List}
 use Prim.Native.Nat.{ℕ, ◌+◌, ◌*◌, ◌≤◌, ◌<◌}
 use lib.ListN.{length}
 use borrow.Author.Tests.{lt-ltb, le-ltb, eq-eqb, ne_eqb}
-use Rattle.meaning.specs.declared.Outcome.{Outcome}
-use Rattle.meaning.specs.declared.Outcome.TheVariants.{Clean, Fault}
+use Rattle.meaning.specs.Base.{Outcome}
+use Rattle.meaning.specs.Base.{Clean, Fault}
 use Rattle.meaning.specs.Book.{symbols, name_start, name_length, spelled_name, book_fault, name_place, name_place_in}
 
 module _ (m : List ℕ) (s : ℕ) {r : Outcome} (er : r ≡ book_fault m) where

@@ -9,16 +9,13 @@ ghost use Rattle.meaning.specs.Book.{book_fault, name_place, name_place_in};
 ghost use Rattle.meaning.specs.Rules.{verdict_in, node_work_in, verdict, node_work};
 ghost use Rattle.meaning.specs.Findings.{finding_outcome, finding_node_work, finding_symbol_work};
 
-use meaning::Outcome;
+use meaning::{Answer, Outcome};
 
 // An outcome's three numbers in one: answer x 2^32 + place x 2^16 + second.
-fn pack(o: Outcome) -> u64
-    ensures { result ≡ packed (answer_of o) }
+fn pack(outcome: Outcome) -> u64
+    ensures { result ≡ packed (answer_of outcome) }
 {
-    match o {
-        Outcome::Clean => 65536 * 65535 + 65535,
-        Outcome::Fault(n, p, s) => 4294967296 * (n as u64) + 65536 * (p as u64) + (s as u64),
-    }
+    u64::from(Answer::from(outcome))
 }
 
 // The table check.
@@ -63,8 +60,7 @@ pub extern "C" fn plaitcrumb_check_finding(
 pub extern "C" fn plaitcrumb_name(model: &[u8], index: usize) -> u64
     ensures { result ≡ name_place model.now index }
 {
-    let book = book::fault(model);
-    if let Outcome::Fault(_, _, _) = book {
+    if book::fault(model).is_err() {
         return 0;
     }
     if fields::symbols(model) <= index {

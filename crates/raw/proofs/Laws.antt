@@ -9,7 +9,7 @@ use native.Mathlib.Numerals.{add-one}
 use lib.Dec.{eqb}
 use lib.Pointwise.{pointwise}
 use lib.ListN.{length, get_or, take, drop, get_or-eq_default, length-drop, drop_of_length-le}
-use lib.Seq.{take-nil}
+use lib.Seq.{take_all, take-nil}
 use Rattle.std.proofs.lemmas.Bool.{cases_lt}
 use Rattle.std.proofs.lemmas.List.{take_min}
 use Rattle.meaning.specs.Base.{half, word, part, same_text}
@@ -30,6 +30,10 @@ half_end s i h = rw (past s (i + 1) h) (omega arith)
 pub word_past : (s : List ℕ) (i : ℕ) → length s ≤ i → word s i ≡ 0
 unfolding word
 word_past s i h = rw (half_past s i h, half_past s (i + 2) (omega arith))
+
+-- all that is left
+pub rest_all : (s : List ℕ) (at : ℕ) → take (length s - at) (drop at s) ≡ drop at s
+rest_all s at = take_all (length s - at) (drop at s) (omega (arith, length-drop at s))
 
 -- a part lies between two places that are no further than the bytes go
 pub part_between : (s : List ℕ) (at n : ℕ) {from end : ℕ} → from ≡ min at (length s) → end ≡ from + min n (length s - from)

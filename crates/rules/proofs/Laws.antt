@@ -6,8 +6,8 @@ use native.Mathlib.Omega.{arith}
 use lib.ListN.{length, take, drop}
 use lib.Seq.{take_at}
 use borrow.Author.Tests.{lt-ltb, le-ltb}
-use Rattle.meaning.specs.declared.Outcome.{Outcome}
-use Rattle.meaning.specs.declared.Outcome.TheVariants.{Clean, Fault}
+use Rattle.meaning.specs.Base.{Outcome}
+use Rattle.meaning.specs.Base.{Clean, Fault}
 use Rattle.meaning.specs.Base.{when}
 use Rattle.meaning.specs.Book.{symbols, nodes, book_fault}
 use Rattle.meaning.specs.Table.{table_fault}

@@ -2,7 +2,7 @@
 use mathlib.Core.Path.{◌≡◌, sym, ◌∙◌, ap}
 use mathlib.Core.List.{List}
 use Prim.Native.Nat.{ℕ}
-use Rattle.meaning.specs.declared.Outcome.{Outcome}
+use Rattle.meaning.specs.Base.{Outcome}
 use Rattle.tri.specs.Once.{Once, OnceIn}
 use Rattle.rules.proofs.fault.Kinds as FaultKinds
 use Rattle.rules.proofs.fault.Reads as FaultReads

@@ -1,6 +1,6 @@
 -- What the table check owes its caller, and its part after the book: the outcome, and every byte of the node work. Assumes nothing: these are definitions.
 use Rattle.std.specs.Prelude.{ℕ, ◌≡◌, List, length}
-use Rattle.meaning.specs.declared.Outcome.{Outcome}
+use Rattle.meaning.specs.Base.{Outcome}
 use Rattle.meaning.specs.Rules.{verdict_in, node_work_in, verdict, node_work}
 
 -- of model m, table t and node work w: outcome r, and the node work afterwards

@@ -10,66 +10,36 @@ ghost use Rattle.meaning.specs.Book.{symbols as symbols_of, choices as choices_o
 ghost use Rattle.meaning.specs.Rules.{test10, choice_fault, test18, rules_fault};
 ghost use Rattle.rules.specs.Checked.{Checked, CheckedIn};
 
-use meaning::Outcome;
+use meaning::{Outcome, Refusal, refuse, turns};
 
 // 10: the first entry that does not fit its symbol's type.
 fn types_fault(m: &[u8], t: &[u8]) -> Outcome
     ensures { result ≡ first_below (test10 m.now t.now) (symbols_of m.now) }
 {
-    let n = fields::symbols(m);
-    for s in 0..n {
-        let at = symbol_rules::type_fault(m, t, s);
-        if let Outcome::Fault(_, _, _) = at {
-            return at;
-        }
-    }
-    Outcome::Clean
+    turns::first_fault(fields::symbols(m), |s| symbol_rules::type_fault(m, t, s))
 }
 
 // 15 to 17, choice by choice.
 fn choices_fault(m: &[u8], t: &[u8], vs: &[u8]) -> Outcome
     ensures { result ≡ first_below (choice_fault m.now t.now vs.now) (choices_of m.now) }
 {
-    let n = fields::choices(m);
-    for c in 0..n {
-        let at = choice_rules::choice_fault(m, t, vs, c);
-        if let Outcome::Fault(_, _, _) = at {
-            return at;
-        }
-    }
-    Outcome::Clean
+    turns::first_fault(fields::choices(m), |c| choice_rules::choice_fault(m, t, vs, c))
 }
 
 // 18: the first symbol that is m without modules.
 fn modules_fault(m: &[u8], t: &[u8]) -> Outcome
     ensures { result ≡ first_below (test18 m.now t.now) (symbols_of m.now) }
 {
-    let n = fields::symbols(m);
-    for s in 0..n {
-        let at = choice_rules::modules_fault(m, t, s);
-        if let Outcome::Fault(_, _, _) = at {
-            return at;
-        }
-    }
-    Outcome::Clean
+    turns::first_fault(fields::symbols(m), |s| choice_rules::modules_fault(m, t, s))
 }
 
 // The first broken rule, where the nodes' values are vs.
 pub fn fault(m: &[u8], t: &[u8], vs: &[u8]) -> Outcome
     ensures { result ≡ rules_fault m.now t.now vs.now }
 {
-    let types = types_fault(m, t);
-    if let Outcome::Fault(_, _, _) = types {
-        return types;
-    }
-    let symbols = blocks::fault(m, t, vs);
-    if let Outcome::Fault(_, _, _) = symbols {
-        return symbols;
-    }
-    let choices = choices_fault(m, t, vs);
-    if let Outcome::Fault(_, _, _) = choices {
-        return choices;
-    }
+    types_fault(m, t)?;
+    blocks::fault(m, t, vs)?;
+    choices_fault(m, t, vs)?;
     modules_fault(m, t)
 }
 
@@ -78,13 +48,10 @@ pub fn fault(m: &[u8], t: &[u8], vs: &[u8]) -> Outcome
 pub fn check_in(model: &[u8], table: &[u8], work: &mut [u8]) -> Outcome
     ensures { CheckedIn model.now table.now work.old result work.new }
 {
-    let readable = entries::fault(table, fields::symbols(model));
-    if let Outcome::Fault(_, _, _) = readable {
-        return readable;
-    }
+    entries::fault(table, fields::symbols(model))?;
     let n = fields::nodes(model);
     if work.len() < n {
-        return Outcome::Fault(7, n as u16, 65535);
+        return refuse(Refusal::NodeRoom, n);
     }
     values::fill(model, table, work);
     fault(model, table, &work[0..n])
@@ -94,9 +61,6 @@ pub fn check_in(model: &[u8], table: &[u8], work: &mut [u8]) -> Outcome
 pub fn check(model: &[u8], table: &[u8], work: &mut [u8]) -> Outcome
     ensures { Checked model.now table.now work.old result work.new }
 {
-    let book = book::fault(model);
-    if let Outcome::Fault(_, _, _) = book {
-        return book;
-    }
+    book::fault(model)?;
     check_in(model, table, work)
 }

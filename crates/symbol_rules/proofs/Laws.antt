@@ -16,8 +16,8 @@ use mir.ValLaws.{to_z-of_z}
 use types.Run.{OneOf, miss}
 use denote.Enum.Declared.{tag_of}
 use borrow.Author.Tests.{ne_eqb, eq-eqb, eqb-true, eqb-false, le-leb, leb-true}
-use Rattle.meaning.specs.declared.Outcome.{Outcome}
-use Rattle.meaning.specs.declared.Outcome.TheVariants.{Clean, Fault}
+use Rattle.meaning.specs.Base.{Outcome}
+use Rattle.meaning.specs.Base.{Clean, Fault}
 use Rattle.meaning.specs.declared.Value.{Value}
 use Rattle.meaning.specs.Base.{when}
 use Rattle.meaning.specs.Book.{range_symbol, low_of, high_of, range_condition}

@@ -1,6 +1,6 @@
 -- Below which symbol every range is kept. Assumes nothing: these are definitions.
 use Rattle.std.specs.Prelude.{ℕ, ◌<◌, ◌≡◌, List}
-use Rattle.meaning.specs.declared.Outcome.TheVariants.{Clean}
+use Rattle.meaning.specs.Base.{Clean}
 use Rattle.meaning.specs.Rules.{test14}
 
 -- range r is kept at each symbol below off

@@ -5,7 +5,7 @@
 
 ghost use Rattle.std.specs.Prelude.{◌≡◌, ◌⊎◌, ◌<◌, ◌≤◌, leb};
 ghost use Rattle.std.specs.Int.Signed.{le_z};
-ghost use Rattle.meaning.specs.declared.Outcome.TheVariants.{Clean, Fault};
+ghost use Rattle.meaning.specs.Base.{Clean, Fault};
 ghost use Rattle.meaning.specs.Base.{when, first_below};
 ghost use Rattle.meaning.specs.Table.{content_in, content_of, value_of, a_three, a_text};
 ghost use Rattle.meaning.specs.Values.{prompt_value};
@@ -15,7 +15,7 @@ ghost use Rattle.spell.specs.Leaves.{leaf_content};
 ghost use Rattle.symbol_rules.specs.Leaves.{leaf_int, leaf_hex, leaf_ordered, leaf_within};
 ghost use Rattle.symbol_rules.specs.Ranges.{KeptAt, KeptBelow, BrokenAt};
 
-use meaning::{Outcome, Value};
+use meaning::{Outcome, Refusal, Value, refuse_if, refuse_with_if, turns};
 use spell::Leaf;
 use tri::Tri;
 
@@ -37,7 +37,7 @@ pub fn type_fault(m: &[u8], t: &[u8], s: usize) -> Outcome
     ensures { result ≡ test10 m.now t.now s }
 {
     let bad = !type_fits(t, fields::type_of(m, s), entries::value(t, s));
-    raw::fault_if(bad, 10, s, 65535)
+    refuse_if(bad, Refusal::Typed, s)
 }
 
 // 11, 12 and 13 in turn, of a boolean or tristate symbol with this value, prompt, Default and Lower.
@@ -45,16 +45,10 @@ fn three_tests(s: usize, v: Tri, p: Tri, d: Tri, low: Tri) -> Outcome
     requires { s < 65536 }
     ensures { result ≡ three_tests s v.v p.v d.v low.v }
 {
-    let below = raw::fault_if(v.v < low.v, 11, s, 65535);
-    if let Outcome::Fault(_, _, _) = below {
-        return below;
-    }
-    let above = raw::fault_if((0 < p.v) & (low.v <= p.v) & (p.v < v.v), 12, s, 65535);
-    if let Outcome::Fault(_, _, _) = above {
-        return above;
-    }
+    refuse_if(v.v < low.v, Refusal::Lower, s)?;
+    refuse_if((0 < p.v) & (low.v <= p.v) & (p.v < v.v), Refusal::Upper, s)?;
     let owed = d.or(low);
-    raw::fault_if((p.v == 0) & (v.v != owed.v), 13, s, 65535)
+    refuse_if((p.v == 0) & (v.v != owed.v), Refusal::Default, s)
 }
 
 // 11, 12 or 13 at s, a boolean or tristate symbol, by its Default and Lower.
@@ -139,7 +133,7 @@ pub fn other_by(m: &[u8], t: &[u8], vs: &[u8], s: usize, d: Leaf) -> Outcome
     let v = spell::of_value(entries::value(t, s));
     let p = values::at(vs, fields::prompt_of(m, s));
     let bad = (p.v == 0) & !same_content(m, t, v, d);
-    raw::fault_if(bad, 13, s, 65535)
+    refuse_if(bad, Refusal::Default, s)
 }
 
 // Whether v lies from low to high: three ints, or three hexes.
@@ -155,14 +149,14 @@ fn range_at(m: &[u8], t: &[u8], vs: &[u8], s: usize, r: usize) -> Outcome
     ensures { result ≡ test14 m.now t.now vs.now s r }
 {
     if fields::range_symbol(m, r) != s {
-        return Outcome::Clean;
+        return Ok(());
     }
     let v = spell::of_value(entries::value(t, s));
     let condition = values::at(vs, fields::range_condition(m, r));
     let low = values::leaf(m, t, fields::low_of(m, r));
     let high = values::leaf(m, t, fields::high_of(m, r));
     let bad = (0 < condition.v) & !within(low, high, v);
-    raw::fault_if(bad, 14, s, r)
+    refuse_with_if(bad, Refusal::Range, s, r)
 }
 
 // 14 at s: the first range on it that is broken.
@@ -170,14 +164,7 @@ pub fn ranges_fault(m: &[u8], t: &[u8], vs: &[u8], s: usize) -> Outcome
     requires { s < 65536 }
     ensures { result ≡ first_below (test14 m.now t.now vs.now s) (ranges_of m.now) }
 {
-    let n = fields::ranges(m);
-    for r in 0..n {
-        let at = range_at(m, t, vs, s, r);
-        if let Outcome::Fault(_, _, _) = at {
-            return at;
-        }
-    }
-    Outcome::Clean
+    turns::first_fault(fields::ranges(m), |r| range_at(m, t, vs, s, r))
 }
 
 // The symbol of range r where that one is broken and below `first`, else `first`.
@@ -189,11 +176,7 @@ fn lowered(m: &[u8], t: &[u8], vs: &[u8], r: usize, first: usize) -> usize
     if first <= s {
         return first;
     }
-    let at = range_at(m, t, vs, s, r);
-    if let Outcome::Fault(_, _, _) = at {
-        return s;
-    }
-    first
+    if range_at(m, t, vs, s, r).is_err() { s } else { first }
 }
 
 // The first symbol that has a broken range; 65,536 if there is none.

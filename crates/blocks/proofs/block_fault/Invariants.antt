@@ -2,7 +2,7 @@
 use mathlib.Core.Path.{◌≡◌}
 use Prim.Native.Nat.{suc, ◌≤◌, ◌-◌}
 use lib.ListN.{length}
-use Rattle.meaning.specs.declared.Outcome.TheVariants.{Clean}
+use Rattle.meaning.specs.Base.{Clean}
 use Rattle.meaning.specs.Base.{first_below}
 use Rattle.meaning.specs.Values.{given, condition_value, lower_step, default_step}
 use Rattle.blocks.specs.Rows.{Rows, own_fault}

@@ -1,6 +1,6 @@
 -- `blocks::own_faults` meets its contract: what a block answers is the answer if it is a fault, and the last block ends at the last symbol.
 use mathlib.Core.Path.{◌≡◌}
-use Rattle.meaning.specs.declared.Outcome.TheVariants.{Clean}
+use Rattle.meaning.specs.Base.{Clean}
 use Rattle.meaning.specs.Base.{first_below}
 use Rattle.blocks.specs.Rows.{own_fault}
 use Prim.Native.Nat.{◌≤◌, ◌-◌}

@@ -1,7 +1,7 @@
 -- `book::chain_fault` meets its contract: it goes on while every section is in place, stops at the first that is not, and looks at the end last.
 use Rattle.meaning.specs.Book.{chain_at}
 use Rattle.meaning.specs.Base.{first_below}
-use Rattle.meaning.specs.declared.Outcome.TheVariants.{Clean}
+use Rattle.meaning.specs.Base.{Clean}
 use mathlib.Core.Path.{◌≡◌}
 use Prim.Native.Nat.{◌≤◌, ◌-◌}
 use Rattle.book.proofs.chain_fault.Given as goal

@@ -1,7 +1,7 @@
 -- `book::members_fault` meets its contract: it goes on while every choice's members are well formed, and the next ones begin where these end, no later than the first old record.
 use Rattle.meaning.specs.Book.{choice_members_fault, member_due}
 use Rattle.meaning.specs.Base.{first_below}
-use Rattle.meaning.specs.declared.Outcome.TheVariants.{Clean}
+use Rattle.meaning.specs.Base.{Clean}
 use mathlib.Core.Path.{◌≡◌}
 use Prim.Native.Nat.{◌≤◌, ◌-◌}
 use Rattle.book.proofs.members_fault.Given as goal

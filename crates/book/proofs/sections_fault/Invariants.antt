@@ -1,7 +1,7 @@
 -- `book::sections_fault` meets its contract: it goes on while every section is clean, and stops at the first that is not.
 use Rattle.meaning.specs.Book.{section_after}
 use Rattle.meaning.specs.Base.{first_below}
-use Rattle.meaning.specs.declared.Outcome.TheVariants.{Clean}
+use Rattle.meaning.specs.Base.{Clean}
 use mathlib.Core.Path.{◌≡◌}
 use Prim.Native.Nat.{◌≤◌, ◌-◌}
 use Rattle.book.proofs.sections_fault.Given as goal

@@ -1,7 +1,7 @@
 -- `names::block_fault` meets its contract: it goes on while every symbol is well formed, and stops at the first that is not.
 use Rattle.meaning.specs.Book.{record_at}
 use Rattle.meaning.specs.Base.{first_below}
-use Rattle.meaning.specs.declared.Outcome.TheVariants.{Clean}
+use Rattle.meaning.specs.Base.{Clean}
 use Prim.Native.Nat.{◌≤◌, ◌-◌}
 use mathlib.Core.Path.{◌≡◌}
 use Rattle.names.proofs.block_fault.Given as goal

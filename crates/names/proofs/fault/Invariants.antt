@@ -1,7 +1,7 @@
 -- `names::fault` meets its contract: what a block answers is the answer if it is a fault, and so is its first name that is not new; the last block ends at the last symbol.
 use mathlib.Core.Path.{◌≡◌}
 use Prim.Native.Nat.{◌≤◌, ◌-◌}
-use Rattle.meaning.specs.declared.Outcome.TheVariants.{Clean}
+use Rattle.meaning.specs.Base.{Clean}
 use Rattle.meaning.specs.Book.{record_at}
 use Rattle.meaning.specs.Base.{first_below}
 use Rattle.names.proofs.fault.Given as goal

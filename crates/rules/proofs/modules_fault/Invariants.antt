@@ -2,7 +2,7 @@
 use mathlib.Core.Path.{◌≡◌}
 use Prim.Native.Nat.{◌≤◌, ◌-◌}
 use Rattle.meaning.specs.Base.{first_below}
-use Rattle.meaning.specs.declared.Outcome.TheVariants.{Clean}
+use Rattle.meaning.specs.Base.{Clean}
 use Rattle.meaning.specs.Rules.{test18}
 use Rattle.rules.proofs.modules_fault.Given as goal
 

@@ -1,6 +1,6 @@
 -- `symbol_rules::ranges_fault` meets its contract: it goes on while every range is kept, and stops at the first that is not.
 use Rattle.meaning.specs.Base.{first_below}
-use Rattle.meaning.specs.declared.Outcome.TheVariants.{Clean}
+use Rattle.meaning.specs.Base.{Clean}
 use mathlib.Core.Path.{◌≡◌}
 use Prim.Native.Nat.{◌≤◌, ◌-◌}
 use Rattle.meaning.specs.Rules.{test14}

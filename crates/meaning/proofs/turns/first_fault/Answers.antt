@@ -1,11 +1,11 @@
--- `meaning::first_fault` meets its contract: no place before the one looked at has a fault, so the first that has one is the first of all.
+-- `meaning::turns::first_fault` meets its contract: no place before the one looked at has a fault, so the first that has one is the first of all.
 use native.Mathlib.Omega.{arith}
 use mathlib.Core.Path.{◌≡◌, sym, ◌∙◌}
 use Rattle.std.proofs.Common.{rules, Err}
 use Rattle.meaning.specs.Base.{first_below}
 use Rattle.meaning.proofs.First.{clean_none, clean_more, place_fault}
 use Rattle.meaning.proofs.Folds.{at_end}
-use Rattle.meaning.proofs.first_fault.Goals as goal
+use Rattle.meaning.proofs.turns.first_fault.Goals as goal
 
 pub loop-i-init : goal.loop-i-init
 loop-i-init g c = (omega arith, λ t h. clean_none t)

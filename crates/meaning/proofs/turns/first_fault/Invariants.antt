@@ -1,7 +1,7 @@
--- `meaning::first_fault` meets its contract: no place before the one looked at has a fault, so the first that has one is the first of all.
+-- `meaning::turns::first_fault` meets its contract: no place before the one looked at has a fault, so the first that has one is the first of all.
 use Rattle.std.proofs.Common.{◌≡◌, ◌<◌, ◌≤◌, ℕ}
 use Rattle.meaning.specs.Base.{Outcome, Clean, first_below}
-use Rattle.meaning.proofs.first_fault.Given as goal
+use Rattle.meaning.proofs.turns.first_fault.Given as goal
 
 abbrev pub invariant-loop-i : goal.invariant-loop-i
 invariant-loop-i g l =
