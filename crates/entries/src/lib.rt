@@ -43,6 +43,7 @@ fn start(t: &[u8], s: usize) -> usize
 }
 
 // Where the body of entry s must start, of n: behind the one before it.
+#[tactic(auto, unfolding(meaning::specs::Table::body_due))]
 fn body_due(t: &[u8], n: usize, s: usize) -> usize
     requires { (n < 2 ^ 32) × (s < 2 ^ 32) }
     ensures { result ≡ body_due t.now n s }
@@ -54,6 +55,7 @@ fn body_due(t: &[u8], n: usize, s: usize) -> usize
 }
 
 // Whether a body of kind k may be l bytes long.
+#[tactic(auto, unfolding(meaning::specs::Table::length_fits, meaning::specs::Base::pick))]
 fn length_fits(k: u8, l: usize) -> bool
     ensures { result ≡ length_fits k l }
 {
@@ -73,6 +75,7 @@ fn byte_fits(k: u8, b: u8) -> bool
 }
 
 // Whether entry s, of n, is well formed.
+#[tactic(auto, unfolding(meaning::specs::Table::entry_ok))]
 fn entry_ok(t: &[u8], n: usize, s: usize) -> bool
     requires { (n < 2 ^ 32) × (s < 2 ^ 32) }
     ensures { result ≡ entry_ok t.now n s }
@@ -98,6 +101,7 @@ pub fn signed(u: u32) -> i32
 }
 
 // What stands at symbol s.
+#[tactic(auto, unfolding(meaning::specs::Table::read_of, meaning::specs::Base::pick))]
 pub fn value(t: &[u8], s: usize) -> Value
     requires { s < 2 ^ 32 }
     ensures { result ≡ read_of t.now s }
@@ -126,6 +130,7 @@ pub fn entry(t: &[u8], n: usize, s: usize) -> Option<Value>
 }
 
 // A symbol's value as one of the three: n where it is of another kind.
+#[tactic(auto, unfolding(meaning::specs::Table::value_of, meaning::specs::Table::content_of, meaning::specs::Table::read_of, meaning::specs::Base::pick))]
 pub fn three(t: &[u8], s: usize) -> Tri
     requires { s < 2 ^ 32 }
     ensures { result.v ≡ value_of t.now s }
@@ -141,6 +146,7 @@ pub fn three(t: &[u8], s: usize) -> Tri
 }
 
 // 5: short, a wrong total or count, or the contents cut.
+#[tactic(auto, unfolding(meaning::specs::Table::contents_fault, meaning::specs::Base::when))]
 fn contents_fault(t: &[u8], n: usize) -> Outcome
     requires { n < 2 ^ 32 }
     ensures { result ≡ contents_fault t.now n }
@@ -160,6 +166,7 @@ fn entry_at(t: &[u8], n: usize, s: usize) -> Outcome
 }
 
 // 5, last: the bodies end before the total.
+#[tactic(auto, unfolding(meaning::specs::Table::bodies_fault, meaning::specs::Base::when))]
 fn bodies_fault(t: &[u8], n: usize) -> Outcome
     requires { n < 2 ^ 32 }
     ensures { result ≡ bodies_fault t.now n }

@@ -32,6 +32,7 @@ fn type_fits(t: &[u8], y: u8, v: Value) -> bool
 }
 
 // 10 at s, if its entry does not fit its type.
+#[tactic(auto, unfolding(meaning::specs::Rules::test10, meaning::specs::Table::content_of))]
 pub fn type_fault(m: &[u8], t: &[u8], s: usize) -> Outcome
     requires { s < 65536 }
     ensures { result ≡ test10 m.now t.now s }
@@ -41,6 +42,7 @@ pub fn type_fault(m: &[u8], t: &[u8], s: usize) -> Outcome
 }
 
 // 11, 12 and 13 in turn, of a boolean or tristate symbol with this value, prompt, Default and Lower.
+#[tactic(auto, unfolding(meaning::specs::Rules::three_tests, meaning::specs::Base::or_else, meaning::specs::Base::when))]
 fn three_tests(s: usize, v: Tri, p: Tri, d: Tri, low: Tri) -> Outcome
     requires { s < 65536 }
     ensures { result ≡ three_tests s v.v p.v d.v low.v }
@@ -126,6 +128,7 @@ fn same_content(m: &[u8], t: &[u8], a: Leaf, b: Leaf) -> bool
 }
 
 // 13 at s, a string, int or hex symbol, by its Default.
+#[tactic(auto, unfolding(meaning::specs::Table::content_of, meaning::specs::Values::prompt_value))]
 pub fn other_by(m: &[u8], t: &[u8], vs: &[u8], s: usize, d: Leaf) -> Outcome
     requires { s < 65536 }
     ensures { result ≡ when (broken13_content (content_of t.now s) (prompt_value m.now vs.now s) (leaf_content m.now t.now d)) (Fault 13 s 65535) }
@@ -144,6 +147,7 @@ fn within(low: Leaf, high: Leaf, v: Leaf) -> bool
 }
 
 // 14 at s, if range r is on it and broken.
+#[tactic(auto, unfolding(meaning::specs::Rules::test14, meaning::specs::Table::content_of, meaning::specs::Base::when))]
 fn range_at(m: &[u8], t: &[u8], vs: &[u8], s: usize, r: usize) -> Outcome
     requires { (s < 65536) × (r < 65536) }
     ensures { result ≡ test14 m.now t.now vs.now s r }
@@ -160,6 +164,7 @@ fn range_at(m: &[u8], t: &[u8], vs: &[u8], s: usize, r: usize) -> Outcome
 }
 
 // 14 at s: the first range on it that is broken.
+#[tactic(auto, unfolding(meaning::specs::Base::first_below))]
 pub fn ranges_fault(m: &[u8], t: &[u8], vs: &[u8], s: usize) -> Outcome
     requires { s < 65536 }
     ensures { result ≡ first_below (test14 m.now t.now vs.now s) (ranges_of m.now) }
@@ -168,6 +173,7 @@ pub fn ranges_fault(m: &[u8], t: &[u8], vs: &[u8], s: usize) -> Outcome
 }
 
 // The symbol of range r where that one is broken and below `first`, else `first`.
+#[tactic(auto, unfolding(meaning::specs::Rules::test14, meaning::specs::Base::when))]
 fn lowered(m: &[u8], t: &[u8], vs: &[u8], r: usize, first: usize) -> usize
     requires { (r < 65536) × (first ≤ 65536) }
     ensures { (result ≤ first) × KeptAt m.now t.now vs.now result r × ((result ≡ first) ⊎ (test14 m.now t.now vs.now result r ≡ Clean → ⊥)) }
@@ -176,7 +182,11 @@ fn lowered(m: &[u8], t: &[u8], vs: &[u8], r: usize, first: usize) -> usize
     if first <= s {
         return first;
     }
-    if range_at(m, t, vs, s, r).is_err() { s } else { first }
+    if range_at(m, t, vs, s, r).is_err() {
+        s
+    } else {
+        first
+    }
 }
 
 // The first symbol that has a broken range; 65,536 if there is none.
