@@ -11,6 +11,8 @@ use lib.Seq.{get_or-set_same, get_or-set_other}
 use borrow.Author.Tests.{ne_eqb, eqb-true, eqb-false, ltb-true, ltb-false}
 use Rattle.tri.specs.Three.{or_of}
 use Rattle.meaning.specs.Base.{Outcome}
+use Rattle.std.specs.Prelude.{Ok, Err}
+use Rattle.meaning.specs.declared.Answer.{Answer}
 use Rattle.meaning.specs.Base.{Clean, Fault}
 use Rattle.meaning.specs.Base.{pick, fold, when, or_else, first_below}
 use Rattle.meaning.specs.Book.{selects, defaults, ranges, target_of, default_symbol, default_value, three_type}
@@ -131,13 +133,13 @@ module _ (m t vs : List ℕ) (s : ℕ) {r : Outcome} {q : Bool} {f : ℕ} (eq : 
 -- RULE 14, where no symbol below off breaks a range, and off does if it is a symbol
 then_none : (a : Outcome) → or_else a Clean ≡ a
 unfolding or_else
-then_none Clean = refl
-then_none (Fault n p s) = refl
+then_none (Ok _) = refl
+then_none (Err f) = refl
 
 then_then : (a b c : Outcome) → or_else a (or_else b c) ≡ or_else (or_else a b) c
 unfolding or_else
-then_then Clean b c = refl
-then_then (Fault n p s) b c = refl
+then_then (Ok _) b c = refl
+then_then (Err f) b c = refl
 
 module _ (m t vs : List ℕ) (n off : ℕ) (kept : KeptBelow m t vs (ranges m) off) (broken : BrokenAt m t vs (ranges m) off) (small : n < 65536) where
   own_below : (k : ℕ) → k ≤ off → first_below (symbol_fault m t vs) k ≡ first_below (own_fault m t vs) k
@@ -150,7 +152,7 @@ module _ (m t vs : List ℕ) (n off : ℕ) (kept : KeptBelow m t vs (ranges m) o
   up_to = rw (add-one off, own_below off (omega arith)) (then_then _ _ _)
 
   -- a fault of 11 to 13, none at all, and one of 14
-  pub own-answers : {e a p s : ℕ} {r : Outcome} → e ≡ min n (off + 1) → r ≡ first_below (own_fault m t vs) e → r ≡ Fault a p s
+  pub own-answers : {e : ℕ} {r : Outcome} {f : Answer} → e ≡ min n (off + 1) → r ≡ first_below (own_fault m t vs) e → r ≡ Err f
       → r ≡ first_below (symbol_fault m t vs) n
   own-answers {e} {r = r} ee er f = by (ltb off n) refl
     where
@@ -172,5 +174,5 @@ module _ (m t vs : List ℕ) (n off : ℕ) (kept : KeptBelow m t vs (ranges m) o
       z = omega arith
 
       by : (q : Outcome) → q ≡ first_below (test14 m t vs off) (ranges m) → q ≡ first_below (symbol_fault m t vs) n
-      by Clean h = absurd (broken (omega arith) (clean_all (test14 m t vs off) (ranges m) (sym h)))
-      by (Fault a p s) h = block_fault (symbol_fault m t vs) n (off + 1) (first_clean (rw z at er) f h ∙ sym up_to) refl (omega arith)
+      by (Ok _) h = absurd (broken (omega arith) (clean_all (test14 m t vs off) (ranges m) (sym h)))
+      by (Err x) h = block_fault (symbol_fault m t vs) n (off + 1) (first_clean (rw z at er) f h ∙ sym up_to) refl (omega arith)

@@ -60,6 +60,7 @@ fn default_three(m: &[u8], vs: &[u8], first: u16) -> Tri
 }
 
 // Default of a string, int or hex symbol, by its first default that applies.
+#[tactic(auto, unfolding(meaning::specs::Base::part))]
 fn default_leaf(m: &[u8], t: &[u8], first: u16) -> Leaf
     ensures { leaf_content m.now t.now result ≡ chosen (λ d. leaf_of m.now t.now (default_value m.now d)) (a_text []) first }
 {

@@ -15,6 +15,7 @@ ghost use Rattle.book.specs.Turns.{InTurn};
 use meaning::{Outcome, Refusal, refuse_if, refuse_with_if, turns};
 
 // 1: too short, or unlike its total.
+#[tactic(auto, unfolding(meaning::specs::Book::length_fault, meaning::specs::Base::when))]
 fn length_fault(m: &[u8]) -> Outcome
     ensures { result ≡ length_fault m.now }
 {
@@ -24,6 +25,7 @@ fn length_fault(m: &[u8]) -> Outcome
 }
 
 // Where section k must start, of those from 1 to 9: behind the one before it.
+#[tactic(auto, unfolding(meaning::specs::Book::due))]
 fn due(m: &[u8], k: usize) -> usize
     requires { (0 < k) × (k < 10) }
     ensures { result ≡ due_of m.now k }
@@ -36,6 +38,7 @@ fn due(m: &[u8], k: usize) -> usize
 }
 
 // 2 at section k + 1, if it is not where the chain puts it.
+#[tactic(auto, unfolding(meaning::specs::Book::chain_at, meaning::specs::Base::when))]
 fn chain_at(m: &[u8], k: usize) -> Outcome
     requires { k < 8 }
     ensures { result ≡ chain_at m.now k }
@@ -46,6 +49,7 @@ fn chain_at(m: &[u8], k: usize) -> Outcome
 }
 
 // 2 at section 8, if the last section does not end at the total.
+#[tactic(auto, unfolding(meaning::specs::Book::end_fault, meaning::specs::Base::when))]
 fn end_fault(m: &[u8]) -> Outcome
     ensures { result ≡ end_fault m.now }
 {
@@ -54,6 +58,7 @@ fn end_fault(m: &[u8]) -> Outcome
 }
 
 // 2: the first section out of place.
+#[tactic(auto, unfolding(meaning::specs::Book::chain_fault, meaning::specs::Base::or_else))]
 fn chain_fault(m: &[u8]) -> Outcome
     ensures { result ≡ chain_fault m.now }
 {
@@ -62,6 +67,7 @@ fn chain_fault(m: &[u8]) -> Outcome
 }
 
 // 3 at record i of section k, another than the symbols', if it is malformed.
+#[tactic(auto, unfolding(meaning::specs::Book::record_at, meaning::specs::Base::when))]
 fn record_at(m: &[u8], k: usize, i: usize) -> Outcome
     requires { (k < 16) × (k ≡ 1 → ⊥) × (i < 65536) }
     ensures { result ≡ record_at m.now k i }
@@ -71,6 +77,7 @@ fn record_at(m: &[u8], k: usize, i: usize) -> Outcome
 }
 
 // 3: the first malformed record of section k.
+#[tactic(auto, unfolding(meaning::specs::Book::section_fault))]
 fn section_fault(m: &[u8], k: usize) -> Outcome
     requires { k < 16 }
     ensures { result ≡ section_fault m.now k }
@@ -82,6 +89,7 @@ fn section_fault(m: &[u8], k: usize) -> Outcome
 }
 
 // 3 behind the last choice, if the choices do not use all members.
+#[tactic(auto, unfolding(meaning::specs::Book::unused_fault, meaning::specs::Base::when))]
 fn unused_fault(m: &[u8]) -> Outcome
     ensures { result ≡ unused_fault m.now }
 {
@@ -91,6 +99,7 @@ fn unused_fault(m: &[u8]) -> Outcome
 }
 
 // 3 at choice c's member j, if it is malformed. It stands no later than `old`, the first member record whose symbol is in an earlier one.
+#[tactic(auto, unfolding(meaning::specs::Book::member_at, meaning::specs::Base::when))]
 fn member_at(m: &[u8], c: usize, j: usize, old: usize) -> Outcome
     requires { (c < 65536) × (first_member m.now c + j < members_of m.now) × (members_of m.now < 65536) × FirstOld m.now old × (first_member m.now c + j ≤ old) }
     ensures { result ≡ member_at m.now c j }
@@ -101,6 +110,7 @@ fn member_at(m: &[u8], c: usize, j: usize, old: usize) -> Outcome
 }
 
 // 3: the first malformed member of choice c. Its members start no later than `old`.
+#[tactic(auto, unfolding(meaning::specs::Book::choice_members_fault))]
 fn choice_members_fault(m: &[u8], c: usize, old: usize) -> Outcome
     requires { (c < 65536) × (first_member m.now c + member_count m.now c ≤ members_of m.now) × (members_of m.now < 65536) × FirstOld m.now old × (first_member m.now c ≤ old) }
     ensures { result ≡ choice_members_fault m.now c }
@@ -109,6 +119,7 @@ fn choice_members_fault(m: &[u8], c: usize, old: usize) -> Outcome
 }
 
 // 3: the first malformed member, where the choices take the members in turn.
+#[tactic(auto, unfolding(meaning::specs::Book::members_fault))]
 fn members_fault(m: &[u8]) -> Outcome
     requires { InTurn m.now }
     ensures { result ≡ members_fault m.now }
@@ -118,6 +129,7 @@ fn members_fault(m: &[u8]) -> Outcome
 }
 
 // 3: the first malformed record of sections 1 to 6.
+#[tactic(auto, unfolding(meaning::specs::Book::section_after))]
 fn sections_fault(m: &[u8]) -> Outcome
     ensures { result ≡ first_below (section_after m.now) 6 }
 {
@@ -125,6 +137,7 @@ fn sections_fault(m: &[u8]) -> Outcome
 }
 
 // 3: the first malformed record.
+#[tactic(auto, unfolding(meaning::specs::Book::records_fault, meaning::specs::Base::or_else))]
 fn records_fault(m: &[u8]) -> Outcome
     ensures { result ≡ records_fault m.now }
 {
@@ -134,6 +147,7 @@ fn records_fault(m: &[u8]) -> Outcome
 }
 
 // 4: the modules symbol is no boolean symbol.
+#[tactic(auto, unfolding(meaning::specs::Book::modules_fault, meaning::specs::Base::when))]
 fn modules_fault(m: &[u8]) -> Outcome
     ensures { result ≡ modules_fault m.now }
 {
@@ -144,6 +158,7 @@ fn modules_fault(m: &[u8]) -> Outcome
 }
 
 // The first fault of a book: 1 to 4.
+#[tactic(auto, unfolding(meaning::specs::Book::book_fault, meaning::specs::Base::or_else))]
 pub fn fault(m: &[u8]) -> Outcome
     ensures { result ≡ book_fault m.now }
 {

@@ -54,6 +54,10 @@ when_iff false a f = (λ h. refl, λ e. refl)
 below_suc : (P : ℕ → Type 0) (n : ℕ) → ((k : ℕ) → k < n → P k) → P n → (k : ℕ) → k < suc n → P k
 below_suc P n all here k lt = ⊎_elim (λ e. subst P (sym e) here) (λ l. all k l) (eq-or-lt_of_le (le_of_suc-le-suc lt))
 
+-- and below n + 1
+pub below_more : (P : ℕ → Type 0) (n : ℕ) → ((k : ℕ) → k < n → P k) → P n → (k : ℕ) → k < n + 1 → P k
+below_more P n all here k lt = below_suc P n all here k (omega (arith, lt))
+
 -- r is the first fault among the places below n: where it is, that it is one, and that none stands before it
 pub record First (t : ℕ → Outcome) (n : ℕ) (r : Outcome) : Type 0 where
   pub place : ℕ

@@ -2,13 +2,13 @@
 #![tactic(auto)]
 
 ghost use Rattle.std.specs.Prelude.{◌≡◌, ◌≤◌, ◌<◌, ℕ, Bool};
-ghost use Rattle.meaning.specs.Base.{Outcome as Found, first_below, first_where, count_below};
+ghost use Rattle.meaning.specs.Base.{Outcome as Found, Clean, first_below, first_where, count_below};
 
 use crate::Outcome;
 
-// The first fault of those at the numbers below n.
+// The first fault of those at the numbers below n. A number is looked at only where those before it have none.
 pub fn first_fault<F: Fn(usize) -> Outcome>(n: usize, fault_at: F) -> Outcome
-    requires { (i : ℕ) → i < n → F.pre fault_at i }
+    requires { (i : ℕ) → i < n → ((j : ℕ) → j < i → F.post fault_at j Clean) → F.pre fault_at i }
     ensures { (t : ℕ → Found) → ((i : ℕ) (r : Found) → i < n → F.post fault_at i r → r ≡ t i) → result ≡ first_below t n }
 {
     for i in 0..n {

@@ -23,7 +23,10 @@ fn types_fault(m: &[u8], t: &[u8]) -> Outcome
 fn choices_fault(m: &[u8], t: &[u8], vs: &[u8]) -> Outcome
     ensures { result ≡ first_below (choice_fault m.now t.now vs.now) (choices_of m.now) }
 {
-    turns::first_fault(fields::choices(m), |c| choice_rules::choice_fault(m, t, vs, c))
+    turns::first_fault(
+        fields::choices(m),
+        |c| choice_rules::choice_fault(m, t, vs, c),
+    )
 }
 
 // 18: the first symbol that is m without modules.
@@ -34,6 +37,7 @@ fn modules_fault(m: &[u8], t: &[u8]) -> Outcome
 }
 
 // The first broken rule, where the nodes' values are vs.
+#[tactic(auto, unfolding(meaning::specs::Rules::rules_fault, meaning::specs::Base::or_else))]
 pub fn fault(m: &[u8], t: &[u8], vs: &[u8]) -> Outcome
     ensures { result ≡ rules_fault m.now t.now vs.now }
 {

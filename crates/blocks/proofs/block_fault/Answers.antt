@@ -1,5 +1,6 @@
 -- `blocks::block_fault` meets its contract: each pass has what the records so far come to, and the symbols are then tested in order by what the passes found.
-use mathlib.Core.Path.{◌≡◌, refl}
+use Rattle.std.proofs.Common.{rules}
+use mathlib.Core.Path.{◌∙◌, ◌≡◌, refl}
 use native.Mathlib.Omega.{arith}
 use Prim.Native.Nat.{suc, ◌+◌, ◌-◌}
 use lib.Dec.{ltb}
@@ -52,14 +53,16 @@ bounds-low-i-in-loop-s c = omega arith
 pub bounds-first-i-in-loop-s : goal.bounds-first-i-in-loop-s
 bounds-first-i-in-loop-s c = omega arith
 
-pub own_fault-at-requires : goal.own_fault-at-requires
-own_fault-at-requires c = let e : c.loop-k.k ≡ c.selects-selects.result = omega arith in let f : c.loop-j.j ≡ c.defaults-defaults.result = omega arith in (omega arith, lower_at c.args.m.now c.args.base c.loop-k.low c.loop-s.s (omega arith) (omega arith) (omega arith) c.args.t.now c.args.vs.now (rw (e, c.selects-selects.ensures.0) at c.loop-k.invariant.2), first_at c.args.m.now c.args.base c.loop-j.first c.loop-s.s (omega arith) (omega arith) (omega arith) c.args.vs.now (rw (f, c.defaults-defaults.ensures.0) at c.loop-j.invariant.2))
+pub own_fault-requires : goal.own_fault-requires
+own_fault-requires c = let e : c.loop-k.k ≡ c.selects-selects.result = omega arith in let f : c.loop-j.j ≡ c.defaults-defaults.result = omega arith in (omega arith, lower_at c.args.m.now c.args.base c.loop-k.low c.loop-s.s (omega arith) (omega arith) (omega arith) c.args.t.now c.args.vs.now (rw (e, c.selects-selects.ensures.0) at c.loop-k.invariant.2), first_at c.args.m.now c.args.base c.loop-j.first c.loop-s.s (omega arith) (omega arith) (omega arith) c.args.vs.now (rw (f, c.defaults-defaults.ensures.0) at c.loop-j.invariant.2))
 
-pub returns-in-Fault : goal.returns-in-Fault
-returns-in-Fault c = place_fault _ _ _ c.loop-s.invariant.2 c.own_fault-at.ensures c.in-Fault.is (omega arith)
+pub returns-in_err-own_fault : goal.returns-in_err-own_fault
+returns-in_err-own_fault c =
+    let same : c.from_residual.result ≡ c.own_fault.result = search rules in
+    same ∙ place_fault _ _ _ c.loop-s.invariant.2 c.own_fault.ensures c.in_err-own_fault.was (omega arith)
 
 pub loop-s-preserved : goal.loop-s-preserved
-loop-s-preserved c = (omega arith, omega arith, clean_more _ _ c.loop-s.invariant.2 c.own_fault-at.ensures c.in_default.is)
+loop-s-preserved c = (omega arith, omega arith, clean_more _ _ c.loop-s.invariant.2 c.own_fault.ensures c.in_ok-own_fault.was)
 
 pub returns : goal.returns
 returns c = at_end (first_below _) c.loop-s.invariant.2 (omega arith)

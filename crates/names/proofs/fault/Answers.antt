@@ -1,4 +1,5 @@
 -- `names::fault` meets its contract: what a block answers is the answer if it is a fault, and so is its first name that is not new; the last block ends at the last symbol.
+use Rattle.std.proofs.Common.{rules}
 use mathlib.Core.Path.{◌≡◌, refl, sym, ◌∙◌}
 use native.Mathlib.Omega.{arith}
 use Prim.Native.Nat.{◌+◌}
@@ -12,21 +13,22 @@ use Rattle.names.proofs.fault.Goals as goal
 pub loop-base-init : goal.loop-base-init
 loop-base-init c = (omega arith, clean_none _)
 
-pub block_fault-at-requires : goal.block_fault-at-requires
-block_fault-at-requires c =
+pub block_fault-requires : goal.block_fault-requires
+block_fault-requires c =
     let loop = c.loop-base in
     (omega arith, omega (arith, c.first_old.ensures.0, c.end_of-end.ensures.1), loop.invariant.1, c.first_old.ensures.1)
 
-pub returns-in-Fault : goal.returns-in-Fault
+pub returns-in_err-block_fault : goal.returns-in_err-block_fault
 unfolding section_fault
-returns-in-Fault c =
+returns-in_err-block_fault c =
+    let same : c.from_residual.result ≡ c.block_fault.result = search rules in
     let given = c.args in
     let symbols = c.symbols-n in
     let loop = c.loop-base in
     let end_of-end = c.end_of-end in
     let first-old = c.first_old in
-    let block = c.block_fault-at in
-    rw symbols.ensures.0 at (block_fault (record_at given.m.now 1) symbols.result (loop.base + first-old.result) block.ensures c.in-Fault.is (omega (arith, first-old.ensures.0, end_of-end.ensures.1)))
+    let block = c.block_fault in
+    same ∙ rw symbols.ensures.0 at (block_fault (record_at given.m.now 1) symbols.result (loop.base + first-old.result) block.ensures c.in_err-block_fault.was (omega (arith, first-old.ensures.0, end_of-end.ensures.1)))
 
 pub returns-then-old-end : goal.returns-then-old-end
 unfolding section_fault
@@ -36,18 +38,18 @@ returns-then-old-end c =
     let loop = c.loop-base in
     let end_of-end = c.end_of-end in
     let first-old = c.first_old in
-    let block = c.block_fault-at in
+    let block = c.block_fault in
     let old = loop.base + first-old.result in
-    rw symbols.ensures.0 at (place_fault (record_at given.m.now 1) symbols.result old (sym block.ensures ∙ c.in_default.is) (sym (old_at given.m.now old (first-old.ensures.2 (omega arith)))) refl (omega (arith, end_of-end.ensures.1)))
+    rw symbols.ensures.0 at (place_fault (record_at given.m.now 1) symbols.result old (sym block.ensures ∙ c.in_ok-block_fault.was) (c.refuse_with.ensures ∙ sym (old_at given.m.now old (first-old.ensures.2 (omega arith)))) (c.refuse_with.ensures) (omega (arith, end_of-end.ensures.1)))
 
 pub loop-base-preserved : goal.loop-base-preserved
 loop-base-preserved c =
     let loop = c.loop-base in
     let end_of-end = c.end_of-end in
     let first-old = c.first_old in
-    let block = c.block_fault-at in
+    let block = c.block_fault in
     let e : loop.base + first-old.result ≡ end_of-end.result = omega (arith, first-old.ensures.0) in
-    (omega arith, rw e at (sym block.ensures ∙ c.in_default.is))
+    (omega arith, rw e at (sym block.ensures ∙ c.in_ok-block_fault.was))
 
 pub returns : goal.returns
 unfolding section_fault

@@ -6,4 +6,4 @@ use Rattle.names.proofs.symbol_at.Goals as goal
 
 pub returns : goal.returns
 unfolding record_at
-returns c = c.fault_if.ensures ∙ rw (fits_is c.args.m.now c.args.s c.requires.1 c.symbol_fits.ensures)
+returns c = c.refuse_with_if.ensures ∙ rw (fits_is c.args.m.now c.args.s c.requires.1 c.symbol_fits.ensures)
