@@ -1,6 +1,6 @@
 -- Well-formed choices take the members in turn; what the first member record that is old says of each member up to it; and what a name is, case by case. Assumes nothing.
 use mathlib.Core.Path.{◌≡◌, refl, sym, ◌∙◌}
-use mathlib.Core.Bool.{Bool, true, false, ◌&&◌, not, true≢false, and-eq-true_iff}
+use mathlib.Core.Bool.{Bool, true, false, ◌&&◌, not, true≢false, false≢true, and-eq-true_iff}
 use mathlib.Core.List.{List, []}
 use Prim.Native.Nat.{ℕ, ◌+◌, ◌-◌, ◌≤◌, ◌<◌}
 use native.Mathlib.Omega.{arith}
@@ -8,6 +8,7 @@ use native.Mathlib.Numerals.{add-one}
 use lib.Dec.{eqb, leb, ltb}
 use lib.ListN.{get_or}
 use borrow.Author.Tests.{leb-true, eqb-true, eqb-false, ltb-true, ltb-false, not-false, lt-ltb, le-ltb}
+use Rattle.std.specs.Prelude.{Ok, Err, is_err}
 use Rattle.meaning.specs.Base.{Clean, Fault}
 use Rattle.meaning.specs.Base.{Outcome}
 use Rattle.meaning.specs.Base.{half, part, when, first_below}
@@ -97,19 +98,26 @@ module _ (m : List ℕ) {old : ℕ} (first : FirstOld m old) where
   due_more c le turn er clean = rw (add-one c) (clean_before c (member_count m c) (sym er ∙ clean) (omega (arith, turn.0)) turn.1)
 
 -- THE NAME: of a bad book, of no symbol, of a symbol
-empty_part : (m : List ℕ) → part m 0 0 ≡ []
-unfolding part
-empty_part m = refl
-
-module _ (m : List ℕ) (s : ℕ) {r : Outcome} {l : List ℕ} (er : r ≡ book_fault m) where
-  pub name_bad : {n p e : ℕ} → r ≡ Fault n p e → l ≡ part m 0 0 → l ≡ name_of m s
+module _ (m : List ℕ) (s : ℕ) {r : Outcome} (er : r ≡ book_fault m) where
+  pub name_bad : is_err r ≡ true → [] ≡ name_of m s
   unfolding name_of
-  name_bad f h = rw (← er, f) (h ∙ empty_part m)
+  name_bad h = by r (sym er) h
+    where
+      by : (o : Outcome) → book_fault m ≡ o → is_err o ≡ true → [] ≡ name_of m s
+      by (Ok _) e h = absurd (false≢true h)
+      by (Err x) e h = rw e
 
-  pub name_past : {c : ℕ} → r ≡ Clean → c ≡ symbols m → c ≤ s → l ≡ part m 0 0 → l ≡ name_of m s
-  unfolding name_of
-  name_past {c} f e le h = rw (← er, f, ← e, le-ltb s c le) (h ∙ empty_part m)
+  good : is_err r ≡ false → book_fault m ≡ Clean
+  good h = by r (sym er) h
+    where
+      by : (o : Outcome) → book_fault m ≡ o → is_err o ≡ false → book_fault m ≡ Clean
+      by (Ok tt) e h = e
+      by (Err x) e h = absurd (true≢false h)
 
-  pub name_is : {c : ℕ} → r ≡ Clean → c ≡ symbols m → s < c → l ≡ spelled_name m s → l ≡ name_of m s
+  pub name_past : {c : ℕ} → is_err r ≡ false → c ≡ symbols m → c ≤ s → [] ≡ name_of m s
   unfolding name_of
-  name_is {c} f e lt h = rw (← er, f, ← e, lt-ltb s c lt) h
+  name_past {c} f e le = rw (good f, ← e, le-ltb s c le)
+
+  pub name_is : {c : ℕ} {l : List ℕ} → is_err r ≡ false → c ≡ symbols m → s < c → l ≡ spelled_name m s → l ≡ name_of m s
+  unfolding name_of
+  name_is {c} f e lt h = rw (good f, ← e, lt-ltb s c lt) h

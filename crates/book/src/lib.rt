@@ -25,7 +25,6 @@ fn length_fault(m: &[u8]) -> Outcome
 }
 
 // Where section k must start, of those from 1 to 9: behind the one before it.
-#[tactic(auto, unfolding(meaning::specs::Book::due))]
 fn due(m: &[u8], k: usize) -> usize
     requires { (0 < k) × (k < 10) }
     ensures { result ≡ due_of m.now k }
@@ -115,7 +114,10 @@ fn choice_members_fault(m: &[u8], c: usize, old: usize) -> Outcome
     requires { (c < 65536) × (first_member m.now c + member_count m.now c ≤ members_of m.now) × (members_of m.now < 65536) × FirstOld m.now old × (first_member m.now c ≤ old) }
     ensures { result ≡ choice_members_fault m.now c }
 {
-    turns::first_fault(fields::member_count(m, c), |j| member_at(m, c, j, old))
+    for j in 0..fields::member_count(m, c) {
+        member_at(m, c, j, old)?;
+    }
+    Ok(())
 }
 
 // 3: the first malformed member, where the choices take the members in turn.
@@ -125,7 +127,10 @@ fn members_fault(m: &[u8]) -> Outcome
     ensures { result ≡ members_fault m.now }
 {
     let old = members::first_old(m);
-    turns::first_fault(fields::choices(m), |c| choice_members_fault(m, c, old))
+    for c in 0..fields::choices(m) {
+        choice_members_fault(m, c, old)?;
+    }
+    Ok(())
 }
 
 // 3: the first malformed record of sections 1 to 6.
@@ -169,7 +174,6 @@ pub fn fault(m: &[u8]) -> Outcome
 }
 
 // The name of a symbol, as the part of the book that spells it: empty for a number that is no symbol's, and for a bad book.
-#[tactic(auto, using(crate::proofs::Laws::name_bad))]
 pub fn name(model: &[u8], index: usize) -> &[u8]
     ensures { result.now ≡ name_of model.now index }
 {

@@ -7,6 +7,8 @@ use lib.ListN.{length, take, drop}
 use lib.Seq.{take_at}
 use borrow.Author.Tests.{lt-ltb, le-ltb}
 use Rattle.meaning.specs.Base.{Outcome}
+use Rattle.std.specs.Prelude.{Err}
+use Rattle.meaning.specs.declared.Answer.{Answer}
 use Rattle.meaning.specs.Base.{Clean, Fault}
 use Rattle.meaning.specs.Base.{when}
 use Rattle.meaning.specs.Book.{symbols, nodes, book_fault}
@@ -18,7 +20,7 @@ use Rattle.meaning.proofs.Folds.{build-length}
 use Rattle.rules.specs.Checked.{Checked, CheckedIn}
 
 -- AFTER THE BOOK. Refused at 5 to 7: the outcome is the refusal, and the node work stays
-module _ (m t w : List ℕ) {r : Outcome} {n p s : ℕ} (f : r ≡ Fault n p s) where
+module _ (m t w : List ℕ) {r : Outcome} {x : Answer} (f : r ≡ Err x) where
   refused : r ≡ refusal_in m t (length w) → CheckedIn m t w r w
   unfolding verdict_in node_work_in
   refused e = record { answers = first_fault _ e f; works = rw (← e, f) }
@@ -33,9 +35,9 @@ module _ (m t w : List ℕ) {a : Outcome} {k n : ℕ} (ek : k ≡ symbols m) (ea
   unfolding refusal_in
   to_room e = first_clean (rw ek at ea) ca e
 
-  pub refused_room : length w < n → CheckedIn m t w (Fault 7 n 65535) w
+  pub refused_room : {r : Outcome} → r ≡ Fault 7 n 65535 → length w < n → CheckedIn m t w r w
   unfolding node_room_fault when
-  refused_room lt = refused m t w refl (to_room (rw (← en, lt-ltb (length w) n lt)))
+  refused_room e lt = refused m t w e (e ∙ to_room (rw (← en, lt-ltb (length w) n lt)))
 
   -- answered: the rules decide, over the values that stand in front of the node work
   pub answered : {r : Outcome} {vs after : List ℕ} → n ≤ length w → after ≡ node_values m t ++ drop (nodes m) w → vs ≡ take (n - 0) after
@@ -49,7 +51,7 @@ module _ (m t w : List ℕ) {a : Outcome} {k n : ℕ} (ek : k ≡ symbols m) (ea
 
 -- THE BOOK FIRST: its fault, and the node work stays; or it is clean, and what comes after it decides
 module _ (m t w : List ℕ) {b : Outcome} (eb : b ≡ book_fault m) where
-  pub refused_book : {n p s : ℕ} → b ≡ Fault n p s → Checked m t w b w
+  pub refused_book : {x : Answer} → b ≡ Err x → Checked m t w b w
   unfolding verdict node_work
   refused_book f = record { answers = first_fault _ eb f; works = rw (← eb, f) }
 
