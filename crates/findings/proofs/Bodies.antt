@@ -1,15 +1,16 @@
 -- A finding's body: where a witness or a clearance is judged, each from the parts that its code works out. Assumes nothing.
 use mathlib.Core.Path.{◌≡◌, ◌∙◌, ap}
-use mathlib.Core.Bool.{Bool, true, not}
+use mathlib.Core.Bool.{Bool, not}
 use mathlib.Core.List.{List, ◌++◌, append-nil}
-use Prim.Native.Nat.{ℕ, ◌-◌, ◌≤◌, ◌<◌}
+use Prim.Native.Nat.{ℕ, ◌-◌}
 use native.Mathlib.Omega.{arith}
-use lib.Dec.{eqb}
 use lib.ListN.{length, get_or, take, drop, drop_of_length-le}
-use borrow.Author.Tests.{eq-eqb, ne_eqb, lt-ltb, le-ltb}
+use borrow.Author.Tests.{eq-eqb, ne_eqb}
 use Rattle.meaning.specs.Base.{Outcome}
 use Rattle.meaning.specs.Base.{Clean, Fault}
-use Rattle.meaning.specs.declared.Walked.TheVariants.{Next}
+use Rattle.std.specs.Prelude.{Ok, Err}
+use Rattle.meaning.specs.declared.Answer.{Answer}
+use Rattle.meaning.specs.Clearance.{Walked}
 use Rattle.meaning.specs.Base.{half, when}
 use Rattle.meaning.specs.Book.{symbols, nodes}
 use Rattle.meaning.specs.Table.{table_fault}
@@ -20,7 +21,7 @@ use Rattle.meaning.specs.Findings.{select_of, finding_kind, witness_table, witne
 use Rattle.meaning.proofs.First.{first_fault, first_clean}
 use Rattle.meaning.proofs.Folds.{build-length}
 use Rattle.raw.proofs.Laws.{rest_all}
-use Rattle.findings.specs.Walks.{decoded, walked}
+use Rattle.findings.specs.Walks.{walked}
 
 -- A WITNESS
 pub values_there : (m t w : List ℕ) {d : List ℕ} → length w ≡ nodes m → d ≡ node_values m t ++ drop (nodes m) w → d ≡ node_values m t
@@ -31,7 +32,7 @@ unfolding node_values
 values_many m t e = rw e (build-length (node_value m t) (nodes m))
 
 module _ (m f : List ℕ) {t : List ℕ} {k : ℕ} {a : Outcome} (et : t ≡ witness_table f) (ek : k ≡ symbols m) (ea : a ≡ table_fault t k) where
-  pub witness_unreadable : {n p s : ℕ} → a ≡ Fault n p s → a ≡ witness_fault m f
+  pub witness_unreadable : {x : Answer} → a ≡ Err x → a ≡ witness_fault m f
   unfolding witness_fault
   witness_unreadable h = first_fault _ (rw (et, ek) at ea) h
 
@@ -40,7 +41,7 @@ module _ (m f : List ℕ) {t : List ℕ} {k : ℕ} {a : Outcome} (et : t ≡ wit
     unfolding rule_fault
     by_rules = rw (ev, et) at eb
 
-    pub witness_broken : {n p s : ℕ} → b ≡ Fault n p s → b ≡ witness_fault m f
+    pub witness_broken : {x : Answer} → b ≡ Err x → b ≡ witness_fault m f
     unfolding witness_fault
     witness_broken h = first_clean (rw (et, ek) at ea) ca (first_fault _ by_rules h)
 
@@ -50,21 +51,9 @@ module _ (m f : List ℕ) {t : List ℕ} {k : ℕ} {a : Outcome} (et : t ≡ wit
     witness_judged cb eq eu er =
         first_clean (rw (et, ek) at ea) ca (first_clean by_rules cb (rw (eu, ev, et, eq) at er))
 
--- A CLEARANCE: where its walk ended
-module _ (f : List ℕ) (end : ℕ) {r : Outcome} where
-  pub ended-on : end < 65536 → r ≡ when (not (eqb end (length f))) (Fault 22 end 65535) → r ≡ walk_fault f (decoded end)
-  ended-on h e = rw (lt-ltb end 65536 h) e
-
-  pub ended_malformed : 65536 ≤ end → end < 131072 → r ≡ when true (Fault 22 (end - 65536) 65535) → r ≡ walk_fault f (decoded end)
-  unfolding when
-  ended_malformed l h e = rw (le-ltb end 65536 l, lt-ltb end 131072 h) e
-
-  pub ended_open : 65536 ≤ end → 131072 ≤ end → r ≡ when true (Fault 23 (end - 131072) 65535) → r ≡ walk_fault f (decoded end)
-  unfolding when
-  ended_open l h e = rw (le-ltb end 65536 l, le-ltb end 131072 h) e
-
-pub clearance_judged : (m f : List ℕ) {ys : List ℕ} (end : ℕ) {r : Outcome} → ys ≡ full_sets m → decoded end ≡ walked m f 64 (Next 4) ys
-    → r ≡ walk_fault f (decoded end) → r ≡ clearance_fault m f
+-- A CLEARANCE
+pub clearance_judged : (m f : List ℕ) {ys : List ℕ} (end : Walked) {r : Outcome} → ys ≡ full_sets m → end ≡ walked m f 64 (Ok 4) ys
+    → r ≡ walk_fault f end → r ≡ clearance_fault m f
 unfolding clearance_fault
 clearance_judged m f end ey ee er = er ∙ ap (walk_fault f) (rw ey at ee)
 

@@ -10,6 +10,8 @@ use lib.ListN.{length, get_or, take, drop, replicate}
 use lib.Seq.{length-take-le}
 use borrow.Author.Tests.{lt-ltb, le-ltb, ltb-false}
 use Rattle.meaning.specs.Base.{Outcome}
+use Rattle.std.specs.Prelude.{Err}
+use Rattle.meaning.specs.declared.Answer.{Answer}
 use Rattle.meaning.specs.Base.{Clean, Fault}
 use Rattle.meaning.specs.Base.{when}
 use Rattle.meaning.specs.Book.{symbols, nodes, selects, book_fault}
@@ -35,7 +37,7 @@ head_lengths m f eh ch =
     (ltb-false (length f) 4 a.0, omega (arith, ltb-false 65535 (length f) a.1))
 
 -- REFUSED up to 8: the outcome is the refusal, and both rooms stay
-module _ (m f w z : List ℕ) {r : Outcome} {n p s : ℕ} (h : r ≡ Fault n p s) where
+module _ (m f w z : List ℕ) {r : Outcome} {x : Answer} (h : r ≡ Err x) where
   refused : r ≡ finding_refusal m f (length w) (length z) → Found m f w z r w z
   unfolding finding_outcome finding_node_work finding_symbol_work
   refused e = record { answers = first_fault _ e h; works = rw (← e, h); marks = rw (← e, h) }
@@ -54,18 +56,18 @@ module _ (m f w z : List ℕ) {b a : Outcome} {n : ℕ} (eb : b ≡ book_fault m
   unfolding node_room_fault when
   too_short lt = rw (← en, lt-ltb (length w) n lt)
 
-  pub refused_nodes : length w < n → Found m f w z (Fault 7 n 65535) w z
+  pub refused_nodes : {r : Outcome} → r ≡ Fault 7 n 65535 → length w < n → Found m f w z r w z
   unfolding finding_refusal
-  refused_nodes lt = refused m f w z refl (first_clean eb cb (first_clean ea ca (first_fault _ (too_short lt) refl)))
+  refused_nodes e lt = refused m f w z e (first_clean eb cb (first_clean ea ca (first_fault _ (e ∙ too_short lt) e)))
 
   module _ {k : ℕ} (le : n ≤ length w) (ek : k ≡ symbols m) where
     roomy : Clean ≡ node_room_fault m (length w)
     unfolding node_room_fault when
     roomy = rw (← en, le-ltb (length w) n le)
 
-    pub refused_symbols : length z < k → Found m f w z (Fault 8 k 65535) w z
+    pub refused_symbols : {r : Outcome} → r ≡ Fault 8 k 65535 → length z < k → Found m f w z r w z
     unfolding finding_refusal symbol_room_fault when
-    refused_symbols lt = refused m f w z refl (first_clean eb cb (first_clean ea ca (first_clean roomy refl (rw (← ek, lt-ltb (length z) k lt)))))
+    refused_symbols e lt = refused m f w z e (first_clean eb cb (first_clean ea ca (first_clean roomy refl (e ∙ rw (← ek, lt-ltb (length z) k lt)))))
 
     -- ANSWERED: the body decides, and both rooms are zero in front
     module _ (lk : k ≤ length z) where

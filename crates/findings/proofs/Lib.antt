@@ -1,4 +1,3 @@
-pub mod Heads
 pub mod Walks
 pub mod Rooms
 pub mod Bodies

@@ -3,20 +3,20 @@
 // Any bytes in, one outcome out, and both rooms afterwards as document 01 owes them.
 #![tactic(auto)]
 
-ghost use Rattle.std.specs.Prelude.{◌≡◌, true, ◌+◌, ◌<◌, ◌≤◌, length, replicate};
+ghost use Rattle.std.specs.Prelude.{◌≡◌, true, ◌<◌, ◌≤◌, length, replicate, Ok};
 ghost use Rattle.meaning.specs.Book.{symbols as symbols_of, nodes as nodes_of};
 ghost use Rattle.meaning.specs.Rules.{unmet_in};
 ghost use Rattle.meaning.specs.Sets.{full_sets};
 ghost use Rattle.meaning.specs.Clearance.{leaf_stands, leaf_head, split_head, head_of};
 ghost use Rattle.meaning.specs.Findings.{head_fault, witness_fault, walk_fault, clearance_fault, body_fault};
-ghost use Rattle.meaning.specs.declared.Walked.TheVariants.{Next};
 ghost use Rattle.sets.specs.Work.{blank_of};
-ghost use Rattle.findings.specs.Walks.{decoded, walked, splits_at, StandsIn};
+ghost use Rattle.findings.specs.Walks.{walked, splits_at};
 ghost use Rattle.findings.specs.Found.{Found};
 
-use meaning::{Head, Outcome, Refusal, refuse, refuse_if};
+use meaning::{Head, Outcome, Refusal, Stop, Walked, refuse, refuse_if};
 
 // 21: the finding's length, its select, its kind, its zero.
+#[tactic(auto, unfolding(meaning::specs::Findings::head_fault, meaning::specs::Findings::select_of, meaning::specs::Findings::finding_kind, meaning::specs::Base::when))]
 fn head_fault(m: &[u8], f: &[u8]) -> Outcome
     ensures { result ≡ head_fault m.now f.now }
 {
@@ -27,6 +27,7 @@ fn head_fault(m: &[u8], f: &[u8]) -> Outcome
 }
 
 // Whether a leaf's rule may stand at its place, in a finding about select q.
+#[tactic(auto, unfolding(meaning::specs::Clearance::leaf_stands, meaning::specs::Base::pick))]
 fn leaf_stands(m: &[u8], q: usize, rule: u8, place: usize) -> bool
     requires { place < 65536 }
     ensures { result ≡ leaf_stands m.now q rule place }
@@ -42,95 +43,98 @@ fn leaf_stands(m: &[u8], q: usize, rule: u8, place: usize) -> bool
 }
 
 // A leaf, if its rule may stand there.
-fn leaf_head(m: &[u8], q: usize, rule: u8, place: usize, next: usize) -> Head
-    requires { place < 65536 }
+#[tactic(auto, unfolding(meaning::specs::Clearance::leaf_head, meaning::specs::Base::pick))]
+fn leaf_head(m: &[u8], q: usize, rule: u8, place: u16, next: u16) -> Option<Head>
     ensures { result ≡ leaf_head m.now q rule place next }
 {
-    if leaf_stands(m, q, rule, place) {
-        return Head::Leaf(rule, place, next);
-    }
-    Head::Bad
+    leaf_stands(m, q, rule, usize::from(place)).then_some(Head::Leaf(rule, place, next))
 }
 
 // A split on symbol s, if its set is still all that its type allows.
-fn split_head(set: u8, s: usize, next: usize) -> Head
+#[tactic(auto, unfolding(meaning::specs::Clearance::split_head, meaning::specs::Base::pick))]
+fn split_head(set: u8, s: u16, next: u16) -> Option<Head>
     ensures { result ≡ split_head set s next }
 {
     match set {
-        5 => Head::Two(s, next),
-        7 => Head::Three(s, next),
-        _ => Head::Bad,
+        5 => Some(Head::Two(s, next)),
+        7 => Some(Head::Three(s, next)),
+        _ => None,
     }
 }
 
 // What stands at an offset of the finding.
-fn head_at(m: &[u8], q: usize, f: &[u8], ys: &[u8], at: usize) -> Head
-    requires { at < 65536 }
-    ensures { (result ≡ head_of m.now q f.now ys.now at) × StandsIn f.now result }
+#[tactic(auto, unfolding(meaning::specs::Clearance::head_of, meaning::specs::Base::pick))]
+fn head_at(m: &[u8], q: usize, f: &[u8], ys: &[u8], at: u16) -> Option<Head>
+    requires { length f.now < 65536 }
+    ensures { result ≡ head_of m.now q f.now ys.now at }
 {
-    let mark = raw::byte(f, at);
-    if (mark == 1) & (at + 4 <= f.len()) {
-        return leaf_head(m, q, raw::byte(f, at + 1), raw::half(f, at + 2), at + 4);
+    let from = usize::from(at);
+    let mark = raw::byte(f, from);
+    if mark == 1 && from + 4 <= f.len() {
+        let place = raw::half(f, from + 2) as u16;
+        return leaf_head(m, q, raw::byte(f, from + 1), place, at + 4);
     }
-    if (mark == 0) & (at + 3 <= f.len()) {
-        let s = raw::half(f, at + 1);
-        return split_head(sets::at(ys, s), s, at + 3);
+    if mark == 0 && from + 3 <= f.len() {
+        let s = raw::half(f, from + 1);
+        return split_head(sets::at(ys, s), s as u16, at + 3);
     }
-    Head::Bad
+    None
 }
 
 // What stands at an offset, walked as if no split were allowed any more. The slices that a walk hands on unread are behind one
 // reference more: that keeps its frames small.
-fn leaf(m: &&[u8], f: &&[u8], at: usize, ys: &mut [u8], w: &mut [u8]) -> usize
-    requires { (at < 65536) × (length f.now.now < 65536) × (w.old ≡ blank_of m.now.now) }
-    ensures { (decoded result ≡ walked m.now.now f.now.now 0 (Next at) ys.old) × (result < 196608) × (ys.new ≡ ys.old) × (w.new ≡ w.old) }
+fn leaf(m: &&[u8], f: &&[u8], at: u16, ys: &mut [u8], w: &mut [u8]) -> Walked
+    requires { (length f.now.now < 65536) × (w.old ≡ blank_of m.now.now) }
+    ensures { (result ≡ walked m.now.now f.now.now 0 (Ok at) ys.old) × (ys.new ≡ ys.old) × (w.new ≡ w.old) }
 {
     let q = raw::half(*f, 0);
-    match head_at(*m, q, *f, ys, at) {
+    let Some(head) = head_at(*m, q, *f, ys, at) else {
+        return Err(Stop::Malformed(at));
+    };
+    match head {
         Head::Leaf(rule, place, next) => {
-            if closing::closed_on(*m, q, ys, w, rule, place) {
-                next
+            if closing::closed_on(*m, q, ys, w, rule, usize::from(place)) {
+                Ok(next)
             } else {
-                131072 + at
+                Err(Stop::Open(at))
             }
         }
-        _ => 65536 + at,
+        _ => Err(Stop::Malformed(at)),
     }
 }
 
 // Whether a split stands at an offset.
-fn splits(f: &[u8], ys: &[u8], at: usize) -> bool
-    requires { at < 65536 }
+#[tactic(auto, unfolding(crate::specs::Walks::splits_at))]
+fn splits(f: &[u8], ys: &[u8], at: u16) -> bool
     ensures { result ≡ splits_at f.now ys.now at }
 {
-    let set = sets::at(ys, raw::half(f, at + 1));
-    (raw::byte(f, at) == 0) & (at + 3 <= f.len()) & ((set == 5) | (set == 7))
+    let from = usize::from(at);
+    let set = sets::at(ys, raw::half(f, from + 1));
+    (raw::byte(f, from) == 0) & (from + 3 <= f.len()) & ((set == 5) | (set == 7))
 }
 
-// Walks on from where the walk stands, with so many splits still allowed on the path.
+// Walks on from where the walk stands, with so many splits still allowed on the path. A walk that stopped stays there.
 #[cycle(branch_split)]
-fn branch(m: &&[u8], f: &&[u8], left: usize, from: usize, ys: &mut [u8], w: &mut [u8]) -> usize
-    requires { (from < 196608) × (length f.now.now < 65536) × (w.old ≡ blank_of m.now.now) }
-    ensures { (decoded result ≡ walked m.now.now f.now.now left (decoded from) ys.old) × (result < 196608) × (ys.new ≡ ys.old) × (w.new ≡ w.old) }
+fn branch(m: &&[u8], f: &&[u8], left: usize, from: Walked, ys: &mut [u8], w: &mut [u8]) -> Walked
+    requires { (length f.now.now < 65536) × (w.old ≡ blank_of m.now.now) }
+    ensures { (result ≡ walked m.now.now f.now.now left from ys.old) × (ys.new ≡ ys.old) × (w.new ≡ w.old) }
 {
-    if 65535 < from {
-        return from;
+    let at = from?;
+    if (0 < left) & splits(*f, ys, at) {
+        return split(m, f, left, at, ys, w);
     }
-    if (0 < left) & splits(*f, ys, from) {
-        return split(m, f, left, from, ys, w);
-    }
-    leaf(m, f, from, ys, w)
+    leaf(m, f, at, ys, w)
 }
 
 // Walks the split that stands at an offset: its branches in order, each with one value. The symbol's set ends as it began.
 #[cycle(branch_split)]
-fn split(m: &&[u8], f: &&[u8], left: usize, at: usize, ys: &mut [u8], w: &mut [u8]) -> usize
+fn split(m: &&[u8], f: &&[u8], left: usize, at: u16, ys: &mut [u8], w: &mut [u8]) -> Walked
     requires { (0 < left) × (splits_at f.now.now ys.old at ≡ true) × (length f.now.now < 65536) × (w.old ≡ blank_of m.now.now) }
-    ensures { (decoded result ≡ walked m.now.now f.now.now left (Next at) ys.old) × (result < 196608) × (ys.new ≡ ys.old) × (w.new ≡ w.old) }
+    ensures { (result ≡ walked m.now.now f.now.now left (Ok at) ys.old) × (ys.new ≡ ys.old) × (w.new ≡ w.old) }
 {
-    let s = raw::half(*f, at + 1);
+    let s = raw::half(*f, usize::from(at) + 1);
     let all = sets::at(ys, s);
-    let mut reached = at + 3;
+    let mut reached = Ok(at + 3);
     for v in 0u8..3 {
         if sets::has(all, v) {
             raw::put(ys, s, sets::only(v));
@@ -146,18 +150,15 @@ fn fill_sets(m: &[u8], ys: &mut [u8])
     requires { length ys.old ≡ symbols_of m.now }
     ensures { ys.new ≡ full_sets m.now }
 {
-    let n = fields::symbols(m);
-    let mut s: usize = 0;
-    while s < n {
+    for s in 0..fields::symbols(m) {
         ys[s] = sets::full(fields::type_of(m, s));
-        s += 1;
     }
 }
 
 // Walks the whole tree, from where the head ends.
-fn tree(m: &[u8], f: &[u8], ys: &mut [u8], w: &mut [u8]) -> usize
+fn tree(m: &[u8], f: &[u8], ys: &mut [u8], w: &mut [u8]) -> Walked
     requires { (length f.now < 65536) × (w.old ≡ blank_of m.now) }
-    ensures { (decoded result ≡ walked m.now f.now 64 (Next 4) ys.old) × (result < 196608) × (ys.new ≡ ys.old) × (w.new ≡ w.old) }
+    ensures { (result ≡ walked m.now f.now 64 (Ok 4) ys.old) × (ys.new ≡ ys.old) × (w.new ≡ w.old) }
 {
     let split_there = splits(f, ys, 4);
     if split_there {
@@ -167,17 +168,15 @@ fn tree(m: &[u8], f: &[u8], ys: &mut [u8], w: &mut [u8]) -> usize
 }
 
 // Where a walk ended, as an outcome.
-fn walk_fault(f: &[u8], end: usize) -> Outcome
-    requires { end < 196608 }
-    ensures { result ≡ walk_fault f.now (decoded end) }
+#[tactic(auto, unfolding(meaning::specs::Base::when))]
+fn walk_fault(f: &[u8], end: Walked) -> Outcome
+    ensures { result ≡ walk_fault f.now end }
 {
-    if end < 65536 {
-        return refuse_if(end != f.len(), Refusal::Tree, end);
+    match end {
+        Ok(at) => refuse_if(usize::from(at) != f.len(), Refusal::Tree, usize::from(at)),
+        Err(Stop::Malformed(at)) => refuse(Refusal::Tree, usize::from(at)),
+        Err(Stop::Open(at)) => refuse(Refusal::Leaf, usize::from(at)),
     }
-    if end < 131072 {
-        return refuse(Refusal::Tree, end - 65536);
-    }
-    refuse(Refusal::Leaf, end - 131072)
 }
 
 // 22 and 23: a clearance, over rooms of one byte a node and a symbol.
@@ -192,6 +191,7 @@ fn clearance_fault(m: &[u8], f: &[u8], w: &mut [u8], ys: &mut [u8]) -> Outcome
 }
 
 // Whether select k is unmet, where the nodes' values are vs.
+#[tactic(auto, unfolding(meaning::specs::Rules::unmet_in, meaning::specs::Values::depend_value))]
 fn unmet(m: &[u8], t: &[u8], vs: &[u8], k: usize) -> bool
     requires { k < 65536 }
     ensures { result ≡ unmet_in m.now t.now vs.now k }

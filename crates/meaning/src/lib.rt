@@ -182,7 +182,7 @@ pub type Walked = Result<u16, Stop>;
 // with the offset behind it.
 #[derive(Clone, Copy)]
 pub enum Head {
-    Leaf(u8, usize, usize),
-    Two(usize, usize),
-    Three(usize, usize),
+    Leaf(u8, u16, u16),
+    Two(u16, u16),
+    Three(u16, u16),
 }

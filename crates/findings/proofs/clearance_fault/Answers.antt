@@ -16,4 +16,4 @@ pub tree-end-requires : goal.tree-end-requires
 tree-end-requires c = (c.requires.0, c.blank.ensures)
 
 pub returns : goal.returns
-returns c = (clearance_judged c.args.m.now c.args.f.now c.tree-end.result c.fill_sets.ensures c.tree-end.ensures.0 c.walk_fault.ensures, ap length (c.tree-end.ensures.3 ∙ c.blank.ensures) ∙ blank_length c.args.m.now, ap length (c.tree-end.ensures.2 ∙ c.fill_sets.ensures) ∙ full-length c.args.m.now)
+returns c = (clearance_judged c.args.m.now c.args.f.now c.tree-end.result c.fill_sets.ensures c.tree-end.ensures.0 c.walk_fault.ensures, ap length (c.tree-end.ensures.2 ∙ c.blank.ensures) ∙ blank_length c.args.m.now, ap length (c.tree-end.ensures.1 ∙ c.fill_sets.ensures) ∙ full-length c.args.m.now)

@@ -8,4 +8,4 @@ pub split-requires : goal.split-requires
 split-requires c = (omega arith, sym c.splits-split_there.ensures ∙ c.if-split_there.true, c.requires.0, c.requires.1)
 
 pub returns : goal.returns
-returns c = (c.leaf.ensures.0 ∙ no_split c.args.m.now c.args.f.now c.args.ys.now 64 4 c.splits-split_there.ensures c.if-split_there.false, c.leaf.ensures.1, c.leaf.ensures.2, c.leaf.ensures.3)
+returns c = (c.leaf.ensures.0 ∙ no_split c.args.m.now c.args.f.now c.args.ys.now 64 4 c.splits-split_there.ensures c.if-split_there.false, c.leaf.ensures.1, c.leaf.ensures.2)
