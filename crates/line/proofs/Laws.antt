@@ -11,7 +11,8 @@ use native.Mathlib.Numerals.{add-one}
 use borrow.Author.Tests.{lt-ltb, le-ltb}
 use Rattle.meaning.specs.declared.Answer.{Answer}
 use Rattle.meaning.specs.Base.{Outcome}
-use Rattle.meaning.specs.Base.{Clean, Fault}
+use Rattle.std.specs.Prelude.{Ok, Err}
+use Rattle.meaning.specs.Base.{Fault}
 use Rattle.meaning.specs.Base.{pick, half, part, if_clean, answer_of}
 use Rattle.meaning.specs.Book.{name_of, byte_in, book_fault, symbols, start, width, spelled_name, name_length, name_start}
 use Rattle.meaning.specs.Rules.{node_work}
@@ -36,9 +37,9 @@ rest_past s at h = sym (drop_of_length-le s h)
 
 -- A NAME is no longer than a byte counts
 either_short : (o : Outcome) (q : Bool) (l : List ℕ) → length l < 256 → length (if_clean o (pick q l []) []) < 256
-either_short Clean true l h = h
-either_short Clean false l h = omega arith
-either_short (Fault n p s) q l h = omega arith
+either_short (Ok _) true l h = h
+either_short (Ok _) false l h = omega arith
+either_short (Err f) q l h = omega arith
 
 module _ (m : List ℕ) (small : (i : ℕ) → get_or m i 0 < 256) where
   field_small : (k i f : ℕ) → byte_in m k i f < 256

@@ -4,14 +4,12 @@
 #![tactic(auto)]
 
 ghost use Rattle.std.specs.Prelude.{◌≡◌, ◌+◌, ◌<◌, ◌≤◌, ◌∷◌, [], ◌++◌, length, drop};
-ghost use Rattle.meaning.specs.Base.{answer_of};
 ghost use Rattle.meaning.specs.Book.{name_of};
-ghost use Rattle.meaning.specs.Base.{Fault};
 ghost use Rattle.meaning.specs.Program.{model_length, offender, or_dash, decimal};
 ghost use Rattle.line.specs.Written.{Written, Lined};
 ghost use Rattle.line.specs.Numbers.{three_numbers};
 
-use meaning::{Answer, Outcome};
+use meaning::{Answer, Outcome, Refusal};
 
 // How many bytes of the input are the model's, if there are as many.
 fn model_length(input: &[u8]) -> usize
@@ -27,50 +25,26 @@ fn model_length(input: &[u8]) -> usize
 fn rest(s: &[u8], at: usize) -> &[u8]
     ensures { result.now ≡ drop at s.now }
 {
-    if s.len() <= at {
-        return &s[0..0];
-    }
-    &s[at..]
+    &s[at.min(s.len())..]
 }
 
-// The three numbers of an outcome.
-fn answer_of(o: Outcome) -> Answer
-    ensures { result ≡ answer_of o }
+// The symbol that an outcome names, 65535 for none: at the place or at the second place, by what is refused.
+fn offender_of(outcome: &Outcome) -> usize
+    ensures { result ≡ offender outcome.now }
 {
-    match o {
-        Outcome::Clean => Answer {
-            number: 0,
-            place: 65535,
-            second: 65535,
-        },
-        Outcome::Fault(n, p, s) => Answer {
-            number: n,
-            place: p,
-            second: s,
-        },
-    }
-}
-
-// The symbol that a fault of this number, place and second place names: 65535 for none.
-fn named(n: u16, p: u16, s: u16) -> usize
-    ensures { result ≡ offender (Fault n p s) }
-{
-    if ((10 <= n) & (n <= 14)) | (n == 18) {
-        return p as usize;
-    }
-    if (n == 15) | (n == 16) {
-        return s as usize;
-    }
-    65535
-}
-
-// The offending symbol of an outcome: 65535 for none.
-fn offender_of(o: Outcome) -> usize
-    ensures { result ≡ offender o }
-{
-    match o {
-        Outcome::Clean => 65535,
-        Outcome::Fault(n, p, s) => named(n, p, s),
+    let Err(fault) = outcome else {
+        return 65535;
+    };
+    let answer = fault.answer();
+    match fault.refusal() {
+        Refusal::Typed
+        | Refusal::Lower
+        | Refusal::Upper
+        | Refusal::Default
+        | Refusal::Range
+        | Refusal::Modules => usize::from(answer.place),
+        Refusal::One | Refusal::Kind => usize::from(answer.second),
+        _ => 65535,
     }
 }
 
@@ -86,12 +60,9 @@ fn append(out: &mut [u8], at: usize, s: &[u8]) -> usize
     requires { at + length s.now ≤ length out.old }
     ensures { Written out.old at s.now result out.new }
 {
-    let mut i: usize = 0;
-    while i < s.len() {
-        out[at + i] = s[i];
-        i += 1;
-    }
-    at + i
+    let end = at + s.len();
+    out[at..end].copy_from_slice(s);
+    end
 }
 
 // Writes v in decimal and a space.
@@ -121,7 +92,7 @@ fn ending(out: &mut [u8], at: usize, name: &[u8]) -> usize
     requires { at + length name.now + 2 ≤ length out.old }
     ensures { Written out.old at (or_dash name.now ++ (10 ∷ [])) result out.new }
 {
-    if name.len() == 0 {
+    if name.is_empty() {
         return append(out, at, b"-\n");
     }
     let end = append(out, at, name);
@@ -136,6 +107,7 @@ pub fn line(input: &[u8], work: &mut [u8], out: &mut [u8]) -> usize
     let m = model_length(input);
     let model = raw::part(input, 0, m);
     let outcome = rules::check(model, rest(input, m), work);
-    let at = numbers(out, answer_of(outcome));
-    ending(out, at, name_of(model, offender_of(outcome)))
+    let name = name_of(model, offender_of(&outcome));
+    let at = numbers(out, Answer::from(outcome));
+    ending(out, at, name)
 }

@@ -8,6 +8,7 @@ ghost use Rattle.meaning.specs.declared.Answer.{Answer};
 ghost use Rattle.meaning.specs.Base.{Fault as fault_of, when, answer_of, packed};
 ghost use Rattle.meaning.specs.Numbers.{number_of};
 
+use std::fmt;
 use std::marker::Model;
 
 pub mod turns;
@@ -145,6 +146,13 @@ impl From<Outcome> for Answer {
             },
             Err(fault) => fault.answer(),
         }
+    }
+}
+
+// An answer's three numbers with a space between.
+impl fmt::Display for Answer {
+    fn fmt<W: fmt::Write>(&self, f: &mut fmt::Formatter<W>) -> fmt::Result {
+        write!(f, "{} {} {}", self.number, self.place, self.second)
     }
 }
 

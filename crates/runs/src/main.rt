@@ -8,7 +8,7 @@
 ghost use Rattle.std.specs.Prelude.{◌≡◌, length, ◌≤◌};
 ghost use Rattle.std.specs.Io.{ReadsAtMost};
 
-use meaning::Outcome;
+use meaning::{Answer, Outcome};
 use std::io;
 use std::io::{Read, Write};
 
@@ -34,11 +34,6 @@ fn read_full<R: Read>(from: &mut R, room: &mut [u8]) -> io::Result<usize>
     Ok(got)
 }
 
-// A number and a space.
-fn number<W: Write>(to: &mut W, n: u64) -> io::Result<()> {
-    write!(to, "{n} ")
-}
-
 // Each byte as two hex digits.
 fn bytes<W: Write>(to: &mut W, s: &[u8]) -> io::Result<()> {
     for x in s {
@@ -47,26 +42,14 @@ fn bytes<W: Write>(to: &mut W, s: &[u8]) -> io::Result<()> {
     Ok(())
 }
 
-// The three numbers that an outcome is answered with.
-fn numbers<W: Write>(to: &mut W, o: Outcome) -> io::Result<()> {
-    match o {
-        Outcome::Clean => {
-            number(to, 0)?;
-            number(to, 65535)?;
-            number(to, 65535)
-        }
-        Outcome::Fault(n, p, s) => {
-            number(to, n as u64)?;
-            number(to, p as u64)?;
-            number(to, s as u64)
-        }
-    }
+// The three numbers that an outcome is answered with, a space behind each.
+fn numbers<W: Write>(to: &mut W, outcome: Outcome) -> io::Result<()> {
+    write!(to, "{} ", Answer::from(outcome))
 }
 
 // The answer of the table check, and the node work afterwards.
 fn table_case<W: Write>(to: &mut W, model: &[u8], table: &[u8], work: &mut [u8]) -> io::Result<()> {
-    let o = rules::check(model, table, work);
-    numbers(to, o)?;
+    numbers(to, rules::check(model, table, work))?;
     bytes(to, work)?;
     to.write_all(b"/")
 }
@@ -79,8 +62,7 @@ fn finding_case<W: Write>(
     work: &mut [u8],
     marks: &mut [u8],
 ) -> io::Result<()> {
-    let o = findings::check(model, finding, work, marks);
-    numbers(to, o)?;
+    numbers(to, findings::check(model, finding, work, marks))?;
     bytes(to, work)?;
     to.write_all(b"/")?;
     bytes(to, marks)
