@@ -8,6 +8,7 @@ use contract.Lifetimes.{Lfts}
 use borrow.Fn.Kinds.{Dens, res_t, ended_of}
 use denote.Triple.Clauses.{AtExit}
 use Rattle.meaning.specs.Base.{Outcome}
+use Rattle.std.specs.Prelude.{Ok, Err}
 use Rattle.meaning.specs.Base.{Clean, Fault}
 use Rattle.meaning.specs.Base.{answer_of, packed}
 use Rattle.meaning.specs.Book.{book_fault}
@@ -30,12 +31,12 @@ told o = packed (answer_of o)
 
 -- answer 0 is a clean book's alone
 clean : (o : Outcome) → Numbers (Between 1 4) o → told o < 4294967296 → o ≡ Clean
-clean Clean h l = refl
-clean (Fault n p s) h l = absurd (omega (arith, (h.has n p s refl).0, l))
+clean (Ok tt) h l = refl
+clean (Err f) h l = absurd (omega (arith, (h.has f.number f.place f.second refl).0, l))
 
 bad : (o : Outcome) → 4294967296 ≤ told o → (n : ℕ) × (p : ℕ) × (s : ℕ) × (o ≡ Fault n p s)
-bad Clean l = absurd (omega (arith, l))
-bad (Fault n p s) l = (n, p, s, refl)
+bad (Ok tt) l = absurd (omega (arith, l))
+bad (Err f) l = (f.number, f.place, f.second, refl)
 
 -- y is what the book's check answers
 module _ (κb : Lfts 1) (b : Dens κb BookKinds.ps) (y : (res_t BookKinds.r κb).Denot) (f : AtExit (ended_of 1 BookKinds.ps BookKinds.r) κb)

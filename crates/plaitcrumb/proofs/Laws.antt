@@ -9,17 +9,28 @@ use Rattle.meaning.specs.Base.{Clean, Fault}
 use Rattle.meaning.specs.Book.{symbols, name_start, name_length, spelled_name, book_fault, name_place, name_place_in}
 
 module _ (m : List ℕ) (s : ℕ) {r : Outcome} (er : r ≡ book_fault m) where
-  pub place_bad : {n p e : ℕ} → r ≡ Fault n p e → 0 ≡ name_place m s
+  pub place_bad : is_err r ≡ true → 0 ≡ name_place m s
   unfolding name_place
-  place_bad f = rw (← er, f)
+  place_bad h = by r (sym er) h
+    where
+      by : (o : Outcome) → book_fault m ≡ o → is_err o ≡ true → 0 ≡ name_place m s
+      by (Ok _) e h = absurd (false≢true h)
+      by (Err x) e h = rw e
 
-  pub place_past : {c : ℕ} → r ≡ Clean → c ≡ symbols m → c ≤ s → 0 ≡ name_place m s
-  unfolding name_place
-  place_past {c} f e le = rw (← er, f, ← e, le-ltb s c le)
+  good : is_err r ≡ false → book_fault m ≡ Clean
+  good h = by r (sym er) h
+    where
+      by : (o : Outcome) → book_fault m ≡ o → is_err o ≡ false → book_fault m ≡ Clean
+      by (Ok tt) e h = e
+      by (Err x) e h = absurd (true≢false h)
 
-  pub place_is : {c a l : ℕ} → r ≡ Clean → c ≡ symbols m → s < c → a ≡ name_start m s → l ≡ name_length m s → 4294967296 * a + l ≡ name_place m s
+  pub place_past : {c : ℕ} → is_err r ≡ false → c ≡ symbols m → c ≤ s → 0 ≡ name_place m s
   unfolding name_place
-  place_is {c} f e lt ea el = rw (← er, f, ← e, lt-ltb s c lt, ea, el)
+  place_past {c} f e le = rw (good f, ← e, le-ltb s c le)
+
+  pub place_is : {c a l : ℕ} → is_err r ≡ false → c ≡ symbols m → s < c → a ≡ name_start m s → l ≡ name_length m s → 4294967296 * a + l ≡ name_place m s
+  unfolding name_place
+  place_is {c} f e lt ea el = rw (good f, ← e, lt-ltb s c lt, ea, el)
 
 -- without a look at the book
 module _ (m : List ℕ) (s : ℕ) {c : ℕ} (ec : c ≡ symbols m) where
