@@ -6,10 +6,9 @@ use mathlib.Core.Bool.{Bool, true, false, true≢false, false≢true}
 use mathlib.Core.Logic.Iff
 use mathlib.Core.Logic.{◌⊎◌, inl, inr, ◌↔◌, ⊎_elim}
 use native.Mathlib.Omega.{arith}
-use Rattle.meaning.specs.declared.Outcome.{Outcome}
-use Rattle.meaning.specs.declared.Outcome.TheVariants.{Clean, Fault}
-use Rattle.meaning.specs.Base.{pick, when, or_else, first_below, answer_of}
-use Rattle.meaning.proofs.First.{IsClean, IsFault, a_fault, or_else_iff, when_iff, clean_iff, first_is, fault_first}
+use Rattle.std.specs.Prelude.{Ok, Err}
+use Rattle.meaning.specs.Base.{Outcome, Fault, pick, when, or_else, first_below, answer_of}
+use Rattle.meaning.proofs.First.{IsClean, IsFault, an_err, a_fault, or_else_iff, when_iff, clean_iff, first_is, fault_first}
 use Rattle.demands.specs.Broken.{Least}
 use Rattle.demands.proofs.Bools.{Says, Denies, denies_it}
 
@@ -45,8 +44,8 @@ fault_when {b = false} k q r {n = n} {p = p} {s = s} says =
 
 fault_then : (a b : Outcome) (n p s : ℕ) → (or_else a b ≡ Fault n p s) ↔ ((a ≡ Fault n p s) ⊎ (IsClean a × (b ≡ Fault n p s)))
 unfolding or_else
-fault_then Clean b n p s = ((λ e. inr (refl, e)), ⊎_elim (λ e. absurd (a_fault n p s (sym e))) (λ h. h.1))
-fault_then (Fault i j k) b n p s = (inl, ⊎_elim (λ e. e) (λ h. absurd (a_fault i j k h.0)))
+fault_then (Ok tt) b n p s = ((λ e. inr (refl, e)), ⊎_elim (λ e. absurd (a_fault n p s (sym e))) (λ h. h.1))
+fault_then (Err f) b n p s = (inl, ⊎_elim (λ e. e) (λ h. absurd (an_err f h.0)))
 
 -- it stands at place i, and the places before it are clean
 pub record Stops (f : ℕ → Outcome) (n k p s i : ℕ) : Type 0 where
@@ -156,8 +155,8 @@ numbers_of f h = record { has = λ n p s e. h n p s ((f.fault n p s).0 e) }
 
 -- the number that is answered: 0, or the fault's
 pub numbers_answer : {P : ℕ → Type 0} (o : Outcome) → P 0 → Numbers P o → P (answer_of o).number
-numbers_answer Clean z h = z
-numbers_answer (Fault n p s) z h = h.has n p s refl
+numbers_answer (Ok tt) z h = z
+numbers_answer (Err f) z h = h.has f.number f.place f.second refl
 
 -- by a test, where the other side cannot have the number
 pub fault_pick : {P : ℕ → Type 0} {b : Bool} {Q : Type 0} (a c : Outcome) (n p s : ℕ) → Says b Q → Numbers P c → ¬ P n

@@ -8,9 +8,7 @@ use mathlib.Core.Logic.{◌↔◌}
 use mathlib.Core.List.{List}
 use native.Mathlib.Omega.{arith}
 use borrow.Author.Tests.{eq-eqb, ne_eqb}
-use Rattle.meaning.specs.declared.Outcome.{Outcome}
-use Rattle.meaning.specs.declared.Outcome.TheVariants.{Clean, Fault}
-use Rattle.meaning.specs.Base.{or_else}
+use Rattle.meaning.specs.Base.{Outcome, Clean, Fault, or_else}
 use Rattle.meaning.specs.Book.{symbols, nodes, book_fault, WellFormed}
 use Rattle.meaning.specs.Table.{table_fault, Readable}
 use Rattle.meaning.specs.Rules.{rule_fault, node_room_fault}

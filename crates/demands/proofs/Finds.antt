@@ -7,10 +7,9 @@ use mathlib.Core.Logic.{inl, inr, ◌↔◌, ⊎_elim}
 use mathlib.Core.List.{List, [], ◌∷◌, ◌++◌}
 use native.Mathlib.Nat.{not-suc-le-zero, eq-or-lt_of_le, le_of_suc-le-suc}
 use native.Mathlib.Omega.{arith}
-use Rattle.meaning.specs.declared.Outcome.{Outcome}
-use Rattle.meaning.specs.declared.Outcome.TheVariants.{Clean, Fault}
-use Rattle.meaning.specs.Base.{when, or_else, first_below}
-use Rattle.meaning.proofs.First.{IsClean, a_fault}
+use Rattle.std.specs.Prelude.{Ok, Err}
+use Rattle.meaning.specs.Base.{Outcome, Fault, when, or_else, first_below}
+use Rattle.meaning.proofs.First.{IsClean, an_err, a_fault}
 use Rattle.demands.specs.Broken.{Spot, rule_of, place_of, in_turn, All, FirstNot, Holds, Second}
 use Rattle.demands.proofs.Bools.{Denies}
 use Rattle.demands.proofs.Faults.{same_number, same_place, same_second}
@@ -82,16 +81,16 @@ module _ (m t : List ℕ) where
 
   pub finds_then : {l k : List Spot} (a : Outcome) {b : Outcome} → Finds l a → Finds k b → Finds (l ++ k) (or_else a b)
   unfolding or_else
-  finds_then {l} {k} Clean f g =
+  finds_then {l} {k} (Ok tt) f g =
       record {
         clean = λ e. (all_append (Holds m t) l k).1 (f.clean refl, g.clean e);
         fault = λ n p s e.
             let x = g.fault n p s e in
             (x.0, first_behind (Holds m t) l k x.0 (f.clean refl) x.1, x.2, x.3, x.4);
       }
-  finds_then {l} {k} (Fault i j h) f g =
+  finds_then {l} {k} (Err o) f g =
       record {
-        clean = λ e. absurd (a_fault i j h e);
+        clean = λ e. absurd (an_err o e);
         fault = λ n p s e. let x = f.fault n p s e in (x.0, first_front (Holds m t) l k x.0 x.1, x.2, x.3, x.4);
       }
 

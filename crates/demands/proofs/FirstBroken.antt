@@ -4,8 +4,8 @@ use Prim.Native.Nat.{ℕ}
 use mathlib.Core.Path.{◌≡◌, refl, sym, ◌∙◌, ap, subst}
 use mathlib.Core.Logic.{◌↔◌}
 use mathlib.Core.List.{List}
-use Rattle.meaning.specs.declared.Outcome.{Outcome}
-use Rattle.meaning.specs.declared.Outcome.TheVariants.{Clean, Fault}
+use Rattle.std.specs.Prelude.{Ok, Err}
+use Rattle.meaning.specs.Base.{Outcome, Fault}
 use Rattle.meaning.specs.Book.{member_of}
 use Rattle.meaning.specs.Rules.{rule_fault}
 use Rattle.demands.specs.Broken.{Spot, typed, lower, upper, default, range, one, kind, mandatory, modules, rule_of, place_of, listed, Least, IsOtherThan, Holds, Second, FirstBroken}
@@ -36,9 +36,9 @@ first_broken m t n p s = (
 )
   where
     by : (o : Outcome) → rule_fault m t ≡ o → FirstBroken m t n p s → o ≡ Fault n p s
-    by Clean e h = absurd (first_none (Holds m t) (listed m) h.spot ((rules_found m t).clean e) h.first)
-    by (Fault n' p' s') e h =
-        let x = (rules_found m t).fault n' p' s' e in
+    by (Ok tt) e h = absurd (first_none (Holds m t) (listed m) h.spot ((rules_found m t).clean e) h.first)
+    by (Err f) e h =
+        let x = (rules_found m t).fault f.number f.place f.second e in
         let same : x.0 ≡ h.spot = first_unique (Holds m t) (listed m) x.0 h.spot x.1 h.first in
         same_fault (sym x.2 ∙ ap rule_of same ∙ h.rule) (sym x.3 ∙ ap place_of same ∙ h.place)
-        (second_unique m t h.spot (subst (λ y. Second m t y s') same x.4) h.second)
+        (second_unique m t h.spot (subst (λ y. Second m t y f.second) same x.4) h.second)

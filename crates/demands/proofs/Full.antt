@@ -12,9 +12,8 @@ use lib.Pow.{pow_mono}
 use lib.ListN.{length, get_or, set, length-append}
 use lib.Seq.{get_or_at, set_at}
 use borrow.Author.Tests.{eq-eqb}
-use Rattle.meaning.specs.declared.Outcome.{Outcome}
-use Rattle.meaning.specs.declared.Outcome.TheVariants.{Clean, Fault}
-use Rattle.meaning.specs.Base.{pick, tabulate, when}
+use Rattle.std.specs.Prelude.{Ok, Err}
+use Rattle.meaning.specs.Base.{Outcome, Clean, pick, tabulate, when}
 use Rattle.meaning.specs.Book.{symbols, selects, type_of, WellFormed}
 use Rattle.meaning.specs.Table.{table_fault}
 use Rattle.meaning.specs.Values.{val}
@@ -116,10 +115,10 @@ module _ (m : List ℕ) (q : ℕ) (wf : WellFormed m) (all : (s : ℕ) → s < s
     leaf : (f : List ℕ) (k : ℕ) (o : Outcome) → rule_fault m (table_of vs) ≡ o → Good m q wf all vs ys size alone allowed o
         → WalkedThrough m q f k ys (leaf_bytes q o)
     unfolding bytes_of
-    leaf f k Clean e g =
+    leaf f k (Ok tt) e g =
         let s = good20 m q wf all vs ys size alone allowed (clear (table_of vs) (readable m q wf all vs ys size alone allowed) e) in
         leaf_walked m q f k ys 20 q s.0 s.1
-    leaf f k (Fault rule place second) e g = leaf_walked m q f k ys rule place g.0 g.1
+    leaf f k (Err o) e g = leaf_walked m q f k ys o.number o.place g.0 g.1
 
   is_n : Is 1 0
   unfolding only
@@ -181,8 +180,8 @@ both_long true n a b d la lb = omega (arith, length-append a b)
 both_long false n a b d la lb = omega (arith, length-append a (d ++ b), length-append d b)
 
 leaf-long : (q : ℕ) (o : Outcome) → 1 ≤ length (leaf_bytes q o)
-leaf-long q Clean = omega arith
-leaf-long q (Fault n p s) = omega arith
+leaf-long q (Ok tt) = omega arith
+leaf-long q (Err f) = omega arith
 
 tree_long : (m : List ℕ) (q : ℕ) (ts vs : List ℕ) → 2 ^ length ts ≤ length (complete_tree m q ts vs)
 unfolding complete_tree bytes_of

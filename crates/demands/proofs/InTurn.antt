@@ -9,8 +9,7 @@ use native.Mathlib.Omega.{arith}
 use lib.Dec.{eqb, leb, ltb}
 use lib.ListN.{length, drop, length-take, length-drop}
 use borrow.Author.Tests.{leb-true, ltb-true, ne_eqb}
-use Rattle.meaning.specs.declared.Outcome.TheVariants.{Clean, Fault}
-use Rattle.meaning.specs.Base.{pick, part, or_else}
+use Rattle.meaning.specs.Base.{Clean, Fault, pick, part, or_else}
 use Rattle.meaning.specs.Book.{symbols, nodes, texts, end_of, type_of, name_start, name_offset, name_length, spelled_name, prompt_of, depend_of, new_name, name_bytes, digits_alone, name_ok, symbol_ok, book_fault, WellFormed, name_place, name_place_in}
 use Rattle.meaning.specs.Rules.{verdict_in, node_work_in, verdict, node_work}
 use Rattle.demands.proofs.Bools.{says_and, pick-cases, denies_zero}

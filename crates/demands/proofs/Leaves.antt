@@ -9,9 +9,8 @@ use native.Mathlib.Omega.{arith}
 use lib.Dec.{eqb, ltb}
 use lib.ListN.{length}
 use borrow.Author.Tests.{eqb-true, lt-ltb, eq-eqb, leb-true}
-use Rattle.meaning.specs.declared.Outcome.{Outcome}
-use Rattle.meaning.specs.declared.Outcome.TheVariants.{Clean, Fault}
-use Rattle.meaning.specs.Base.{when, or_else, first_below}
+use Rattle.std.specs.Prelude.{Ok, Err}
+use Rattle.meaning.specs.Base.{Outcome, Clean, Fault, when, or_else, first_below}
 use Rattle.meaning.specs.Book.{symbols, choices, type_of, choice_kind, choice_prompt, member_count, member_of, WellFormed}
 use Rattle.meaning.specs.Table.{a_three, content_of, value_of, table_fault}
 use Rattle.meaning.specs.Values.{val, node_values}
@@ -76,13 +75,13 @@ module _ (m : List ℕ) (q : ℕ) (wf : WellFormed m) (all : (s : ℕ) → s < s
   Stands rule place = (leaf_stands m q rule place ≡ true) × (closed_on m q ys rule place ≡ true)
 
   abbrev pub Good : Outcome → Type 0
-  Good Clean = Unit {0}
-  Good (Fault rule place second) = Stands rule place
+  Good (Ok _) = Unit {0}
+  Good (Err f) = Stands f.number f.place
 
   good_or_else : (a b : Outcome) → Good a → Good b → Good (or_else a b)
   unfolding or_else
-  good_or_else Clean b g h = h
-  good_or_else (Fault n p e) b g h = g
+  good_or_else (Ok tt) b g h = h
+  good_or_else (Err f) b g h = g
 
   good_when : (c : Bool) (a : Outcome) → (c ≡ true → Good a) → Good (when c a)
   unfolding when

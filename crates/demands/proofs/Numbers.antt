@@ -7,16 +7,14 @@ use mathlib.Core.List.{List}
 use native.Mathlib.Omega.{arith}
 use lib.Dec.{eqb}
 use lib.ListN.{length}
-use Rattle.meaning.specs.declared.Outcome.{Outcome}
-use Rattle.meaning.specs.declared.Outcome.TheVariants.{Fault}
-use Rattle.meaning.specs.declared.Walked.{Walked}
-use Rattle.meaning.specs.declared.Walked.TheVariants.{Next, Malformed, Open}
-use Rattle.meaning.specs.Base.{when, or_else, answer_of}
+use Rattle.std.specs.Prelude.{Ok, Err}
+use Rattle.meaning.specs.declared.Stop.TheVariants.{Malformed, Open}
+use Rattle.meaning.specs.Base.{Outcome, Fault, when, or_else, answer_of}
 use Rattle.meaning.specs.Book.{symbols, book_fault}
 use Rattle.meaning.specs.Table.{table_fault}
 use Rattle.meaning.specs.Rules.{rule_fault, unmet, node_room_fault, refusal_in, verdict_in, verdict}
 use Rattle.meaning.specs.Sets.{full_sets}
-use Rattle.meaning.specs.Clearance.{walk_of}
+use Rattle.meaning.specs.Clearance.{Walked, walk_of}
 use Rattle.meaning.specs.Findings.{select_of, finding_kind, head_fault, witness_table, witness_fault, walk_fault, clearance_fault, symbol_room_fault, finding_refusal, body_fault, finding_outcome}
 use Rattle.demands.specs.Broken.{Spot, typed, lower, upper, default, range, one, kind, mandatory, modules, rule_of}
 use Rattle.demands.specs.Refused.{Between, TableNumber, TableInNumber, FindingNumber}
@@ -120,12 +118,12 @@ module _ (m f : List ℕ) where
 
   pub clearance_numbers : Numbers (Between 22 23) (clearance_fault m f)
   unfolding clearance_fault when
-  clearance_numbers = by (walk_of m (select_of f) f 64 (Next 4) (full_sets m))
+  clearance_numbers = by (walk_of m (select_of f) f 64 (Ok 4) (full_sets m))
     where
       by : (w : Walked) → Numbers (Between 22 23) (walk_fault f w)
-      by (Next at) = numbers_when (not (eqb at (length f))) 22 at 65535 (omega arith)
-      by (Malformed at) = numbers_when true 22 at 65535 (omega arith)
-      by (Open at) = numbers_when true 23 at 65535 (omega arith)
+      by (Ok at) = numbers_when (not (eqb at (length f))) 22 at 65535 (omega arith)
+      by (Err (Malformed at)) = numbers_when true 22 at 65535 (omega arith)
+      by (Err (Open at)) = numbers_when true 23 at 65535 (omega arith)
 
   pub body_numbers : Numbers OfBody (body_fault m f)
   unfolding body_fault

@@ -3,9 +3,7 @@ use Prim.Native.Nat.{ℕ}
 use mathlib.Core.Path.{◌≡◌, refl}
 use mathlib.Core.Bool.{Bool, not}
 use mathlib.Core.List.{List}
-use Rattle.meaning.specs.declared.Outcome.{Outcome}
-use Rattle.meaning.specs.declared.Outcome.TheVariants.{Fault}
-use Rattle.meaning.specs.Base.{when, or_else}
+use Rattle.meaning.specs.Base.{Outcome, Fault, when, or_else}
 use Rattle.meaning.specs.Book.{prompt_of, depend_of, default_value, default_condition, selector_of, target_of, condition_of, choice_prompt, member_of, modules_of}
 use Rattle.meaning.specs.Table.{value_of}
 use Rattle.meaning.specs.Values.{val, node_values, lower_of, default_of}

@@ -11,8 +11,7 @@ use native.Mathlib.Omega.{arith}
 use lib.Dec.{eqb, leb}
 use lib.ListN.{length}
 use borrow.Author.Tests.{leb-true}
-use Rattle.meaning.specs.declared.Outcome.TheVariants.{Clean, Fault}
-use Rattle.meaning.specs.Base.{half, first_below}
+use Rattle.meaning.specs.Base.{Clean, Fault, half, first_below}
 use Rattle.meaning.specs.Table.{entries, kind_of, length_of, start_of, body_due, length_fits, entry_ok, contents_fault, entry_at, bodies_fault, table_fault, Readable}
 use Rattle.demands.specs.Broken.{Least}
 use Rattle.demands.specs.Refused.{BadContents, GoodContents, BadEntry, GoodEntries, BytesLeft}

@@ -6,7 +6,7 @@ use mathlib.Core.Logic.Iff
 use mathlib.Core.Logic.{◌⊎◌, inl, inr, ◌↔◌, ⊎_elim}
 use mathlib.Core.List.{List}
 use native.Mathlib.Omega.{arith}
-use Rattle.meaning.specs.declared.Outcome.TheVariants.{Clean, Fault}
+use Rattle.meaning.specs.Base.{Clean, Fault}
 use Rattle.meaning.specs.Book.{symbols, nodes, modules_of, book_fault, WellFormed}
 use Rattle.meaning.specs.Table.{table_fault, Readable}
 use Rattle.meaning.specs.Rules.{refusal_in, verdict_in, verdict}

@@ -6,9 +6,7 @@ use mathlib.Core.Bool.{Bool, true, false, false≢true, and-eq-true_iff}
 use mathlib.Core.List.{List}
 use lib.Dec.{eqb, ltb}
 use borrow.Author.Tests.{eqb-true, ltb-true, not-true, not-false}
-use Rattle.meaning.specs.declared.Outcome.{Outcome}
-use Rattle.meaning.specs.declared.Outcome.TheVariants.{Clean, Fault}
-use Rattle.meaning.specs.Base.{when}
+use Rattle.meaning.specs.Base.{Outcome, Clean, Fault, when}
 use Rattle.meaning.specs.Book.{symbols, choices, type_of, three_type}
 use Rattle.meaning.specs.Table.{entries, content_of, value_of, table_fault}
 use Rattle.meaning.specs.Values.{val, yes_no, node_values}

@@ -9,8 +9,7 @@ use native.Mathlib.Omega.{arith}
 use lib.ListN.{length, get_or, length-append, get_or-eq_default}
 use lib.Seq.{get_or-drop}
 use borrow.Author.Tests.{le-leb, lt-ltb, eq-eqb}
-use Rattle.meaning.specs.declared.Outcome.TheVariants.{Clean}
-use Rattle.meaning.specs.Base.{half}
+use Rattle.meaning.specs.Base.{Clean, half}
 use Rattle.meaning.specs.Table.{a_three, entries, kind_of, length_of, start_of, body_due, length_fits, entry_ok, table_fault, read_of, content_of}
 use Rattle.meaning.specs.Values.{val}
 use Rattle.meaning.specs.Findings.{bytes_of, contents_of, table_of}

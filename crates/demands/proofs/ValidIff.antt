@@ -10,8 +10,8 @@ use mathlib.Core.List.{List, [], ◌∷◌}
 use native.Mathlib.Omega.{arith}
 use lib.Dec.{eqb, ltb}
 use borrow.Author.Tests.{eqb-true, eqb-false, ltb-true, ltb-false}
-use Rattle.meaning.specs.declared.Outcome.{Outcome}
-use Rattle.meaning.specs.declared.Outcome.TheVariants.{Clean, Fault}
+use Rattle.std.specs.Prelude.{Ok, Err}
+use Rattle.meaning.specs.Base.{Outcome, Clean}
 use Rattle.meaning.specs.Book.{symbols, ranges, choices, type_of, range_symbol, modules_of, range_ok, WellFormed}
 use Rattle.meaning.specs.Table.{value_of}
 use Rattle.meaning.specs.Rules.{rule_fault}
@@ -25,9 +25,9 @@ pub clean_holds : (m t : List ℕ) → (rule_fault m t ≡ Clean) ↔ All (Holds
 clean_holds m t = ((rules_found m t).clean, λ all. by (rule_fault m t) refl all)
   where
     by : (o : Outcome) → rule_fault m t ≡ o → All (Holds m t) (listed m) → o ≡ Clean
-    by Clean e all = refl
-    by (Fault n p s) e all =
-        let x = (rules_found m t).fault n p s e in
+    by (Ok tt) e all = refl
+    by (Err f) e all =
+        let x = (rules_found m t).fault f.number f.place f.second e in
         absurd (first_none (Holds m t) (listed m) x.0 all x.1)
 
 -- the list, place by place
