@@ -1,7 +1,7 @@
 -- A test says what it tests: each connective and comparison, as an equivalence that goes case by case, and what it picks. Assumes nothing.
 use Prim.Native.Nat.{ℕ, ◌≤◌, ◌<◌}
-use mathlib.Core.Path.{◌≡◌, refl, sym, ◌∙◌}
-use mathlib.Core.Bool.{Bool, true, false, ◌&&◌, ◌||◌, not, true≢false, false≢true}
+use mathlib.Core.Path.{◌≡◌, refl}
+use mathlib.Core.Bool.{Bool, true, false, ◌&&◌, ◌||◌, not}
 use mathlib.Core.Logic.Iff
 use mathlib.Core.Logic.{◌⊎◌, inl, inr, ◌↔◌, ⊎_elim}
 use native.Mathlib.Omega.{arith}
@@ -17,7 +17,7 @@ abbrev pub Denies : Bool → Type 0 → Type 0
 Denies b P = (b ≡ false) ↔ P
 
 pub not_both : {A : Type 0} {b : Bool} → b ≡ false → b ≡ true → A
-not_both f t = absurd (false≢true (sym f ∙ t))
+not_both f t = cc
 
 -- what is picked by a test
 pub pick-cases : {A : Type 0} (P : A → Type 0) (c : Bool) {a b : A} → (c ≡ true → P a) → (c ≡ false → P b) → P (pick c a b)
@@ -36,29 +36,29 @@ pick_rel P false p q = q refl
 module _ {P Q : Type 0} where
   pub says_and : {a b : Bool} → Says a P → Says b Q → Says (a && b) (P × Q)
   says_and {a = true} h k = (λ e. (h.0 refl, k.0 e), λ x. k.1 x.1)
-  says_and {a = false} h k = (λ e. absurd (false≢true e), λ x. h.1 x.0)
+  says_and {a = false} h k = (λ e. cc, λ x. h.1 x.0)
 
   pub says_or : {a b : Bool} → Says a P → Says b Q → Says (a || b) (P ⊎ Q)
   says_or {a = true} h k = (λ e. inl (h.0 refl), λ x. refl)
-  says_or {a = false} h k = (λ e. inr (k.0 e), ⊎_elim (λ p. absurd (false≢true (h.1 p))) k.1)
+  says_or {a = false} h k = (λ e. inr (k.0 e), ⊎_elim (λ p. cc (h.1 p)) k.1)
 
   pub denies_and : {a b : Bool} → Denies a P → Denies b Q → Denies (a && b) (P ⊎ Q)
-  denies_and {a = true} h k = (λ e. inr (k.0 e), ⊎_elim (λ p. absurd (true≢false (h.1 p))) k.1)
+  denies_and {a = true} h k = (λ e. inr (k.0 e), ⊎_elim (λ p. cc (h.1 p)) k.1)
   denies_and {a = false} h k = (λ e. inl (h.0 refl), λ x. refl)
 
   pub denies_or : {a b : Bool} → Denies a P → Denies b Q → Denies (a || b) (P × Q)
-  denies_or {a = true} h k = (λ e. absurd (true≢false e), λ x. h.1 x.0)
+  denies_or {a = true} h k = (λ e. cc, λ x. h.1 x.0)
   denies_or {a = false} h k = (λ e. (h.0 refl, k.0 e), λ x. k.1 x.1)
 
   -- a test behind another: only where the first says so
   pub denies_then : {a b : Bool} → Says a P → Denies b Q → Denies (a && b) (P → Q)
   denies_then {a = true} h k = (λ e p. k.0 e, λ f. k.1 (f (h.0 refl)))
-  denies_then {a = false} h k = (λ e p. absurd (false≢true (h.1 p)), λ f. refl)
+  denies_then {a = false} h k = (λ e p. cc (h.1 p), λ f. refl)
 
 module _ {P : Type 0} where
   pub denies_it : {b : Bool} → Says b P → Denies b (¬ P)
-  denies_it {b = true} h = (λ e. absurd (true≢false e), λ n. absurd (n (h.0 refl)))
-  denies_it {b = false} h = (λ e p. false≢true (h.1 p), λ n. refl)
+  denies_it {b = true} h = (λ e. cc, λ n. absurd (n (h.0 refl)))
+  denies_it {b = false} h = (λ e p. cc (h.1 p), λ n. refl)
 
   pub says_not : {b : Bool} → Denies b P → Says (not b) P
   says_not {b} h = (λ e. h.0 (not-true b e), λ p. flip (h.1 p))

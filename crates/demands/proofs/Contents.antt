@@ -1,7 +1,7 @@
 -- Contents compared and put in a range: each test of the rules says what Valid says, kind by kind. Assumes nothing.
 use Prim.Native.Nat.{ℕ, ◌≤◌}
 use mathlib.Core.Path.{◌≡◌, refl, ap}
-use mathlib.Core.Bool.{Bool, true, false, false≢true, and-eq-true_iff}
+use mathlib.Core.Bool.{Bool, true, false, and-eq-true_iff}
 use mathlib.Core.Logic.Iff
 use mathlib.Core.Logic.{◌⊎◌, inl, inr, ◌↔◌, ⊎_elim}
 use mathlib.Core.List.{List, [], ◌∷◌}
@@ -46,8 +46,8 @@ int_same (negsuc n) = rw (le-leb n n (omega arith))
 
 same_int_lem : (a b : ℤ) → same_int a b ≡ true → a ≡ b
 same_int_lem (pos a) (pos b) e = let h = (and-eq-true_iff (leb a b) _).0 e in ap pos (omega (arith, leb-true a b h.0, leb-true b a h.1))
-same_int_lem (pos a) (negsuc b) e = absurd (false≢true e)
-same_int_lem (negsuc a) (pos b) e = absurd (false≢true e)
+same_int_lem (pos a) (negsuc b) e = cc
+same_int_lem (negsuc a) (pos b) e = cc
 same_int_lem (negsuc a) (negsuc b) e = let h = (and-eq-true_iff (leb b a) _).0 e in ap negsuc (omega (arith, leb-true b a h.0, leb-true a b h.1))
 
 content_same : (v : Content) → same_content v v ≡ true
@@ -58,20 +58,20 @@ content_same (a_hex h) = eq-eqb h h refl
 
 same_content_lem : (v w : Content) → same_content v w ≡ true → v ≡ w
 same_content_lem (a_three v) (a_three w) e = ap a_three (eqb-true v w e)
-same_content_lem (a_three v) (a_text k) e = absurd (false≢true e)
-same_content_lem (a_three v) (an_int b) e = absurd (false≢true e)
-same_content_lem (a_three v) (a_hex h) e = absurd (false≢true e)
-same_content_lem (a_text l) (a_three w) e = absurd (false≢true e)
+same_content_lem (a_three v) (a_text k) e = cc
+same_content_lem (a_three v) (an_int b) e = cc
+same_content_lem (a_three v) (a_hex h) e = cc
+same_content_lem (a_text l) (a_three w) e = cc
 same_content_lem (a_text l) (a_text k) e = ap a_text (same_text_lem l k e)
-same_content_lem (a_text l) (an_int b) e = absurd (false≢true e)
-same_content_lem (a_text l) (a_hex h) e = absurd (false≢true e)
-same_content_lem (an_int a) (a_three w) e = absurd (false≢true e)
-same_content_lem (an_int a) (a_text k) e = absurd (false≢true e)
+same_content_lem (a_text l) (an_int b) e = cc
+same_content_lem (a_text l) (a_hex h) e = cc
+same_content_lem (an_int a) (a_three w) e = cc
+same_content_lem (an_int a) (a_text k) e = cc
 same_content_lem (an_int a) (an_int b) e = ap an_int (same_int_lem a b e)
-same_content_lem (an_int a) (a_hex h) e = absurd (false≢true e)
-same_content_lem (a_hex g) (a_three w) e = absurd (false≢true e)
-same_content_lem (a_hex g) (a_text k) e = absurd (false≢true e)
-same_content_lem (a_hex g) (an_int b) e = absurd (false≢true e)
+same_content_lem (an_int a) (a_hex h) e = cc
+same_content_lem (a_hex g) (a_three w) e = cc
+same_content_lem (a_hex g) (a_text k) e = cc
+same_content_lem (a_hex g) (an_int b) e = cc
 same_content_lem (a_hex g) (a_hex h) e = ap a_hex (eqb-true g h e)
 
 pub says_content : (v w : Content) → Says (same_content v w) (v ≡ w)
@@ -104,20 +104,20 @@ says_order a b = (λ e. record { le = rw e tt }, λ h. is_true (le_z a b) h.le)
     is_true false x = absurd x
 
 int_is_lem : (p : ℤ → Bool) (c : Content) → int_is p c ≡ true → (z : ℤ) × (c ≡ an_int z) × (p z ≡ true)
-int_is_lem p (a_three v) e = absurd (false≢true e)
-int_is_lem p (a_text l) e = absurd (false≢true e)
+int_is_lem p (a_three v) e = cc
+int_is_lem p (a_text l) e = cc
 int_is_lem p (an_int z) e = (z, refl, e)
-int_is_lem p (a_hex h) e = absurd (false≢true e)
+int_is_lem p (a_hex h) e = cc
 
 hex_is_lem : (p : ℕ → Bool) (c : Content) → hex_is p c ≡ true → (h : ℕ) × (c ≡ a_hex h) × (p h ≡ true)
-hex_is_lem p (a_three v) e = absurd (false≢true e)
-hex_is_lem p (a_text l) e = absurd (false≢true e)
-hex_is_lem p (an_int z) e = absurd (false≢true e)
+hex_is_lem p (a_three v) e = cc
+hex_is_lem p (a_text l) e = cc
+hex_is_lem p (an_int z) e = cc
 hex_is_lem p (a_hex h) e = (h, refl, e)
 
 within-range : (low high v : Content) → within low high v ≡ true → IntRange low high v ⊎ HexRange low high v
-within-range low high (a_three v) e = absurd (false≢true e)
-within-range low high (a_text l) e = absurd (false≢true e)
+within-range low high (a_three v) e = cc
+within-range low high (a_text l) e = cc
 within-range low high (an_int z) e =
     let h = (and-eq-true_iff (int_is (λ a. le_z a z) low) _).0 e in
     let a = int_is_lem (λ a. le_z a z) low h.0 in

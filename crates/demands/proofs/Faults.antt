@@ -2,13 +2,13 @@
 -- A search gives a fault exactly where it finds that one and all before it are clean. Assumes nothing.
 use Prim.Native.Nat.{ℕ, ◌<◌}
 use mathlib.Core.Path.{◌≡◌, refl, sym, ◌∙◌, ap, subst}
-use mathlib.Core.Bool.{Bool, true, false, true≢false, false≢true}
+use mathlib.Core.Bool.{Bool, true, false}
 use mathlib.Core.Logic.Iff
 use mathlib.Core.Logic.{◌⊎◌, inl, inr, ◌↔◌, ⊎_elim}
 use native.Mathlib.Omega.{arith}
 use Rattle.std.specs.Prelude.{Ok, Err}
 use Rattle.meaning.specs.Base.{Outcome, Fault, pick, when, or_else, first_below, answer_of}
-use Rattle.meaning.proofs.First.{IsClean, IsFault, an_err, a_fault, or_else_iff, when_iff, clean_iff, first_is, fault_first}
+use Rattle.meaning.proofs.First.{IsClean, IsFault, a_fault, or_else_iff, when_iff, clean_iff, first_is, fault_first}
 use Rattle.demands.specs.Broken.{Least}
 use Rattle.demands.proofs.Bools.{Says, Denies, denies_it}
 
@@ -24,10 +24,10 @@ module _ {n p s n' p' s' : ℕ} (e : Fault n p s ≡ Fault n' p' s') where
   same_second = ap (λ o. (answer_of o).second) e
 
 pub same_fault : {n p s n' p' s' : ℕ} → n ≡ n' → p ≡ p' → s ≡ s' → Fault n p s ≡ Fault n' p' s'
-same_fault e f g = rw (e, f, g)
+same_fault e f g = cc
 
 not_clean : {o : Outcome} {n p s : ℕ} → o ≡ Fault n p s → IsFault o
-not_clean {n = n} {p = p} {s = s} e c = a_fault n p s (sym e ∙ c)
+not_clean e c = cc
 
 -- ONE CERTAIN FAULT
 pub clean_when : {b : Bool} {P : Type 0} (n p s : ℕ) → Denies b P → IsClean (when b (Fault n p s)) ↔ P
@@ -40,12 +40,12 @@ fault_when {b = true} k q r says = (
   (λ h. same_fault (sym h.1) (sym h.2) (sym h.3)),
 )
 fault_when {b = false} k q r {n = n} {p = p} {s = s} says =
-    ((λ e. absurd (a_fault n p s (sym e))), (λ h. absurd (false≢true (says.1 h.0))))
+    ((λ e. cc), (λ h. let z = says.1 h.0 in cc))
 
 fault_then : (a b : Outcome) (n p s : ℕ) → (or_else a b ≡ Fault n p s) ↔ ((a ≡ Fault n p s) ⊎ (IsClean a × (b ≡ Fault n p s)))
 unfolding or_else
-fault_then (Ok tt) b n p s = ((λ e. inr (refl, e)), ⊎_elim (λ e. absurd (a_fault n p s (sym e))) (λ h. h.1))
-fault_then (Err f) b n p s = (inl, ⊎_elim (λ e. e) (λ h. absurd (an_err f h.0)))
+fault_then (Ok tt) b n p s = ((λ e. inr (refl, e)), ⊎_elim (λ e. cc) (λ h. h.1))
+fault_then (Err f) b n p s = (inl, ⊎_elim (λ e. e) (λ h. cc))
 
 -- it stands at place i, and the places before it are clean
 pub record Stops (f : ℕ → Outcome) (n k p s i : ℕ) : Type 0 where
@@ -117,7 +117,7 @@ search_each {b} {P} {Q} num q r k says denies =
     }
   where
     clash : (j : ℕ) → Q j → ¬ P j
-    clash j x y = true≢false (sym ((says j).1 y) ∙ (denies j).1 x)
+    clash j x y = cc ((says j).1 y, (denies j).1 x)
 
     absent : (j : ℕ) → ¬ P j → b j ≡ false
     absent j = (denies_it (says j)).1
@@ -130,7 +130,7 @@ module _ {P : ℕ → Type 0} where
   pub numbers_when : (b : Bool) (k q r : ℕ) → P k → Numbers P (when b (Fault k q r))
   unfolding when
   numbers_when true k q r h = record { has = λ n p s e. subst P (same_number e) h }
-  numbers_when false k q r h = record { has = λ n p s e. absurd (a_fault n p s (sym e)) }
+  numbers_when false k q r h = record { has = λ n p s e. cc }
 
   pub numbers_then : (a b : Outcome) → Numbers P a → Numbers P b → Numbers P (or_else a b)
   numbers_then a b h k =
@@ -163,10 +163,10 @@ pub fault_pick : {P : ℕ → Type 0} {b : Bool} {Q : Type 0} (a c : Outcome) (n
     → (pick b a c ≡ Fault n p s) ↔ (Q × (a ≡ Fault n p s))
 fault_pick {b = true} a c n p s says h not = ((λ e. (says.0 refl, e)), (λ x. x.1))
 fault_pick {b = false} a c n p s says h not =
-    ((λ e. absurd (not (h.has n p s e))), (λ x. absurd (false≢true (says.1 x.0))))
+    ((λ e. absurd (not (h.has n p s e))), (λ x. cc (says.1 x.0)))
 
 pub fault_unpicked : {P : ℕ → Type 0} {b : Bool} {Q : Type 0} (a c : Outcome) (n p s : ℕ) → Denies b Q → Numbers P a → ¬ P n
     → (pick b a c ≡ Fault n p s) ↔ (Q × (c ≡ Fault n p s))
 fault_unpicked {b = true} a c n p s denies h not =
-    ((λ e. absurd (not (h.has n p s e))), (λ x. absurd (true≢false (denies.1 x.0))))
+    ((λ e. absurd (not (h.has n p s e))), (λ x. cc (denies.1 x.0)))
 fault_unpicked {b = false} a c n p s denies h not = ((λ e. (denies.0 refl, e)), (λ x. x.1))

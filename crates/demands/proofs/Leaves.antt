@@ -32,7 +32,7 @@ use Rattle.demands.proofs.ThreeModels.{all_three, no_free, no_range, boolean_mem
 full-fits : (y v : ℕ) → y ≤ 1 → In (full y) v → type_fits y (a_three v) ≡ true
 unfolding full has
 full-fits zero v le h =
-    each_of (λ v. In 5 v → type_fits 0 (a_three v) ≡ true) (λ _. refl) (λ h. absurd (false≢true h)) (λ _. refl) v (in_small 5 v h) h
+    each_of (λ v. In 5 v → type_fits 0 (a_three v) ≡ true) (λ _. refl) (λ h. cc) (λ _. refl) v (in_small 5 v h) h
 full-fits (suc zero) v le h = refl
 full-fits (suc (suc y)) v le h = absurd (omega arith)
 

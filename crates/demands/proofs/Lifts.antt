@@ -46,7 +46,7 @@ bits false false false = (refl, refl, refl)
 
 never : (v : ℕ) → In 0 v → ⊥
 unfolding has
-never v h = each_of (λ v. In 0 v → ⊥) false≢true false≢true false≢true v (in_small 0 v h) h
+never v h = each_of (λ v. In 0 v → ⊥) (λ e. cc) (λ e. cc) (λ e. cc) v (in_small 0 v h) h
 
 -- each type allows n
 pub full_n : (y : ℕ) → In (full y) 0
@@ -63,9 +63,9 @@ unfolding open_sets
 only_is v w lt h =
     let small = in_small (only v) w h in
     each_of (λ v. In (only v) w → w ≡ v)
-    (each_of (λ w. In 1 w → w ≡ 0) (λ _. refl) (λ z. absurd (false≢true z)) (λ z. absurd (false≢true z)) w small)
-    (each_of (λ w. In 2 w → w ≡ 1) (λ z. absurd (false≢true z)) (λ _. refl) (λ z. absurd (false≢true z)) w small)
-    (each_of (λ w. In 4 w → w ≡ 2) (λ z. absurd (false≢true z)) (λ z. absurd (false≢true z)) (λ _. refl) w small)
+    (each_of (λ w. In 1 w → w ≡ 0) (λ _. refl) (λ z. cc) (λ z. cc) w small)
+    (each_of (λ w. In 2 w → w ≡ 1) (λ z. cc) (λ _. refl) (λ z. cc) w small)
+    (each_of (λ w. In 4 w → w ≡ 2) (λ z. cc) (λ z. cc) (λ _. refl) w small)
     v lt h
 
 -- ONE MORE

@@ -2,7 +2,7 @@
 -- that closing reads hold exactly what picks give. Assumes nothing.
 use Prim.Native.Nat.{ℕ, ◌≤◌}
 use mathlib.Core.Path.{◌≡◌, refl}
-use mathlib.Core.Bool.{Bool, true, false, ◌&&◌, not, false≢true, and-eq-true_iff}
+use mathlib.Core.Bool.{Bool, true, false, ◌&&◌, not, and-eq-true_iff}
 use mathlib.Core.Logic.{◌↔◌, ⊎_elim}
 use mathlib.Core.List.{List, []}
 use native.Mathlib.Omega.{arith}
@@ -33,7 +33,7 @@ and_imp false f h = h
 
 and_both : (a a' b b' : Bool) → (a ≡ true → a' ≡ true) → (b ≡ true → b' ≡ true) → (a && b) ≡ true → (a' && b') ≡ true
 and_both true a' b b' f g h = rw (f refl) (g h)
-and_both false a' b b' f g h = absurd (false≢true h)
+and_both false a' b b' f g h = cc
 
 -- 15 stays broken where more members are above n, 17 where fewer are
 up15 : (p a b a' b' : ℕ) → a ≤ a' → b ≤ b' → broken15 p a b ≡ true → broken15 p a' b' ≡ true

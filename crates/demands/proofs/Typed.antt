@@ -25,19 +25,19 @@ past_entries t i le = rw (le-ltb i (entries t) le)
 
 fits-three : (y : ℕ) (x : Content) → leb y 1 ≡ true → type_fits y x ≡ true → x ≡ a_three (three_in x)
 fits-three zero (a_three v) small fits = refl
-fits-three zero (a_text l) small fits = absurd (false≢true fits)
-fits-three zero (an_int z) small fits = absurd (false≢true fits)
-fits-three zero (a_hex h) small fits = absurd (false≢true fits)
+fits-three zero (a_text l) small fits = cc
+fits-three zero (an_int z) small fits = cc
+fits-three zero (a_hex h) small fits = cc
 fits-three (suc zero) (a_three v) small fits = refl
-fits-three (suc zero) (a_text l) small fits = absurd (false≢true fits)
-fits-three (suc zero) (an_int z) small fits = absurd (false≢true fits)
-fits-three (suc zero) (a_hex h) small fits = absurd (false≢true fits)
+fits-three (suc zero) (a_text l) small fits = cc
+fits-three (suc zero) (an_int z) small fits = cc
+fits-three (suc zero) (a_hex h) small fits = cc
 fits-three (suc (suc y)) x small fits = absurd (omega (arith, leb-true (suc (suc y)) 1 small))
 
 fits-full : (y : ℕ) (x : Content) → three_in x ≤ 2 → type_fits y x ≡ true → In (full y) (three_in x)
 unfolding full has
 fits-full zero (a_three v) small fits =
-    each_of (λ v. type_fits 0 (a_three v) ≡ true → In 5 v) (λ _. refl) (λ h. absurd (false≢true h)) (λ _. refl) v (omega arith) fits
+    each_of (λ v. type_fits 0 (a_three v) ≡ true → In 5 v) (λ _. refl) (λ h. cc) (λ _. refl) v (omega arith) fits
 fits-full (suc zero) (a_three v) small fits = each_of (In 7) refl refl refl v (omega arith)
 fits-full (suc (suc y)) (a_three v) small fits =
     absurd (false≢true (rw (ne_eqb (suc (suc y)) 0 (λ e. omega arith), ne_eqb (suc (suc y)) 1 (λ e. omega arith)) at fits))

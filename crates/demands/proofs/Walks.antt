@@ -2,15 +2,13 @@
 -- tree says of all values in the sets that it began with, since a split leaves no value out. Assumes nothing.
 use Prim.Native.Nat.{ℕ, zero, suc, ◌+◌}
 use mathlib.Core.Path.{◌≡◌, refl, ◌∙◌, ap, subst}
-use mathlib.Core.Bool.{true, ◌&&◌, false≢true}
+use mathlib.Core.Bool.{true, ◌&&◌}
 use mathlib.Core.Logic.{◌⊎◌, inl, inr, ◌↔◌, ⊎_elim}
 use mathlib.Core.List.{List}
-use native.Mathlib.Omega.{arith}
 use lib.Dec.{eqb, leb}
 use lib.ListN.{length, get_or, set}
 use borrow.Author.Tests.{eqb-true}
 use Rattle.std.specs.Prelude.{Option, Some, None, Ok, Err}
-use Rattle.meaning.specs.declared.Stop.{Stop}
 use Rattle.meaning.specs.declared.Stop.TheVariants.{Malformed, Open}
 use Rattle.meaning.specs.declared.Head.{Head}
 use Rattle.meaning.specs.declared.Head.TheVariants.{Leaf, Two, Three}
@@ -19,7 +17,6 @@ use Rattle.meaning.specs.Sets.{has, only, sat, full_sets}
 use Rattle.meaning.specs.Picks.{In, Closed}
 use Rattle.meaning.specs.Clearance.{Walked, closed_on, leaf_stands, leaf_head, split_head, head_of, on_head, walk_of}
 use Rattle.meaning.specs.Findings.{select_of, walk_fault, clearance_fault}
-use Rattle.meaning.proofs.First.{a_fault}
 use Rattle.demands.specs.Paths.{Path, whole, split, ClosedTree, leaf, two, three}
 use Rattle.demands.proofs.Bools.{pick-cases, denies_unlike}
 use Rattle.demands.proofs.Faults.{clean_when}
@@ -27,19 +24,9 @@ use Rattle.demands.proofs.Lifts.{each_of, in_small, only_in}
 use Rattle.demands.proofs.Relate.{set_rel}
 use Rattle.demands.proofs.Picked.{path_closed_iff}
 
-not_next : (o : Stop) (e : ℕ) → ◌≡◌ {A = Walked} (Err o) (Ok e) → ⊥
-not_next o e h = let z : ◌≡◌ {A = ℕ} 0 1 = cc in omega arith
-
-same_next : (a e : ℕ) → ◌≡◌ {A = Walked} (Ok a) (Ok e) → a ≡ e
-same_next a e h = ap offset h
-  where
-    offset : Walked → ℕ
-    offset (Ok at) = at
-    offset (Err o) = a
-
 in_two : (v : ℕ) → In 5 v → (0 ≡ v) ⊎ (2 ≡ v)
 unfolding has
-in_two v h = each_of (λ v. In 5 v → (0 ≡ v) ⊎ (2 ≡ v)) (λ _. inl refl) (λ h. absurd (false≢true h)) (λ _. inr refl) v (in_small 5 v h) h
+in_two v h = each_of (λ v. In 5 v → (0 ≡ v) ⊎ (2 ≡ v)) (λ _. inl refl) (λ h. cc) (λ _. inr refl) v (in_small 5 v h) h
 
 in_three : (v : ℕ) → In 7 v → (0 ≡ v) ⊎ ((1 ≡ v) ⊎ (2 ≡ v))
 in_three v h = each_of (λ v. (0 ≡ v) ⊎ ((1 ≡ v) ⊎ (2 ≡ v))) (inl refl) (inr (inl refl)) (inr (inr refl)) v (in_small 7 v h)
@@ -82,28 +69,28 @@ module _ (m : List ℕ) (q : ℕ) (f : List ℕ) where
       → (a : ℕ) × (from ≡ Ok a) × (walk_of m q f k (Ok a) ys ≡ Ok e)
   unfolding walk_of
   came k (Ok a) ys e h = (a, refl, h)
-  came zero (Err o) ys e h = absurd (not_next o e h)
-  came (suc k) (Err o) ys e h = absurd (not_next o e h)
+  came zero (Err o) ys e h = cc
+  came (suc k) (Err o) ys e h = cc
 
   leaf_tree : (k : ℕ) (ys : List ℕ) (at to rule place next : ℕ) → head_of m q f ys at ≡ Some (Leaf rule place next)
       → on_head m q (λ w zs. w) ys at (Some (Leaf rule place next)) ≡ Ok to → Path m ys → ClosedTree m q f k ys at to
   leaf_tree k ys at to rule place next e r p =
       pick-cases (λ (x : Walked). x ≡ Ok to → ClosedTree m q f k ys at to) (closed_on m q ys rule place)
-      (λ c z. subst (ClosedTree m q f k ys at) (same_next next to z) (leaf rule place next e ((path_closed_iff m q ys rule place p).0 c)))
-      (λ _ z. absurd (not_next (Open at) to z)) r
+      (λ c z. let same : next ≡ to = cc in subst (ClosedTree m q f k ys at) same (leaf rule place next e ((path_closed_iff m q ys rule place p).0 c)))
+      (λ _ z. cc) r
 
   last_tree : (ys : List ℕ) (at to : ℕ) (h : Option Head) → head_of m q f ys at ≡ h → on_head m q (λ w zs. Err (Malformed at)) ys at h ≡ Ok to → Path m ys
       → ClosedTree m q f zero ys at to
-  last_tree ys at to None e r p = absurd (not_next (Malformed at) to r)
+  last_tree ys at to None e r p = cc
   last_tree ys at to (Some (Leaf rule place next)) e r p = leaf_tree zero ys at to rule place next e r p
-  last_tree ys at to (Some (Two s next)) e r p = absurd (not_next (Malformed at) to r)
-  last_tree ys at to (Some (Three s next)) e r p = absurd (not_next (Malformed at) to r)
+  last_tree ys at to (Some (Two s next)) e r p = cc
+  last_tree ys at to (Some (Three s next)) e r p = cc
 
   more_tree : (k : ℕ) → ((ys : List ℕ) (at to : ℕ) → walk_of m q f k (Ok at) ys ≡ Ok to → Path m ys → ClosedTree m q f k ys at to)
       → (ys : List ℕ) (at to : ℕ) (h : Option Head) → head_of m q f ys at ≡ h → on_head m q (walk_of m q f k) ys at h ≡ Ok to → Path m ys
       → ClosedTree m q f (suc k) ys at to
   unfolding only
-  more_tree k below ys at to None e r p = absurd (not_next (Malformed at) to r)
+  more_tree k below ys at to None e r p = cc
   more_tree k below ys at to (Some (Leaf rule place next)) e r p = leaf_tree (suc k) ys at to rule place next e r p
   more_tree k below ys at to (Some (Two s next)) e r p =
       let c = came k _ _ to r in
@@ -165,5 +152,5 @@ clearance_iff m f = (
     by : (w : Walked) → walk_of m (select_of f) f 64 (Ok 4) (full_sets m) ≡ w → walk_fault f w ≡ Clean
         → ClosedTree m (select_of f) f 64 (full_sets m) 4 (length f)
     by (Ok to) e c = walk_tree m (select_of f) f 64 (full_sets m) 4 (length f) (e ∙ ap Ok ((ended to).0 c)) whole
-    by (Err (Malformed at)) e c = absurd (a_fault 22 at 65535 c)
-    by (Err (Open at)) e c = absurd (a_fault 23 at 65535 c)
+    by (Err (Malformed at)) e c = cc
+    by (Err (Open at)) e c = cc
