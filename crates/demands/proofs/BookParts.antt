@@ -1,8 +1,8 @@
 -- The book's search, part by part: each part is clean where the book is well-formed there, and gives the fault that document 01 names. Sections
 -- and records are numbered as the document does, and members count by their index, since well-formed choices take them in order. Assumes nothing.
 use Prim.Native.Nat.{ℕ, zero, suc, ◌+◌, ◌≤◌, ◌<◌}
-use mathlib.Core.Path.{◌≡◌, refl, sym, ◌∙◌, ap, subst}
-use mathlib.Core.Bool.{true, false, ◌&&◌, true≢false}
+use mathlib.Core.Path.{◌≡◌, refl, ap, subst}
+use mathlib.Core.Bool.{true, false, ◌&&◌}
 use mathlib.Mathlib.Data.Bool.Basic.{and_elim_left, and_elim_right, eq-true_of_not-eq-false}
 use mathlib.Core.Logic.Iff
 use mathlib.Core.Logic.{◌⊎◌, inl, inr, ◌↔◌, ◌≢◌, ⊎_elim}
@@ -13,12 +13,12 @@ use native.Mathlib.Omega.{arith}
 use lib.Dec.{eqb, leb, ltb}
 use lib.ListN.{length}
 use borrow.Author.Tests.{eqb-true}
+use Rattle.std.proofs.lemmas.Bool.{cases_order}
 use Rattle.meaning.specs.Base.{first_below}
 use Rattle.meaning.specs.Book.{total, start, count, end_of, due, symbols, nodes, choices, members, type_of, choice_kind, mandatory_of, choice_prompt, first_member, member_count, modules_of, member_due, choice_ok, member_ok, length_fault, chain_at, end_fault, chain_fault, record_ok, record_at, section_fault, unused_fault, member_at, choice_members_fault, members_fault, section_after, records_fault, modules_fault, book_fault, WellFormed}
 use Rattle.demands.specs.Broken.{Least}
 use Rattle.demands.specs.Refused.{BadLength, Sized, BadSection, Chained, BadIn, GoodBelow, BadMember, BadRecord, Recorded, BadModules}
 use Rattle.demands.proofs.Bools.{says_unlike, denies_unlike, says_and, says_or, says_not, denies_and, denies_or, denies_not, denies_it, says_lt, denies_lt, says_eq}
-use Rattle.demands.proofs.Counts.{order}
 use Rattle.demands.proofs.Faults.{Search, search_when, search_then, search_turn, search_each}
 
 -- counted from 1 instead of 0
@@ -173,13 +173,12 @@ module _ (m : List ℕ) where
             let d = b.0 in
             let i = b.1 in
             let bad : member_ok m d (first_member m d + i) ≡ false = rw b.4 at b.5 in
-            ⊎_elim (λ less. true≢false (sym (before d less i b.3) ∙ bad))
-            (⊎_elim
+            ⊎_elim
             (λ (same : d ≡ c).
             least.1 i (omega (arith, b.4, ap (first_member m) same))
             (subst (λ q. (i < member_count m q) × (member_ok m q (first_member m q + i) ≡ false)) same (b.3, bad)))
-            (λ more. omega (arith, b.4, in_order c d more b.2, least.0.0)))
-            (order d c)
+            (⊎_elim (λ less. cc (before d less i b.3)) (λ more. omega (arith, b.4, in_order c d more b.2, least.0.0)))
+            (cases_order d c)
 
     back : (n p s : ℕ) → (p ≡ 7) × Least (BadMember m) s × (n ≡ 3) → Raw n p s
     unfolding Raw

@@ -7,6 +7,7 @@ use mathlib.Core.Logic.{◌⊎◌, inl, inr, ◌↔◌, ⊎_elim}
 use native.Mathlib.Omega.{arith}
 use lib.Dec.{eqb, leb, ltb}
 use borrow.Author.Tests.{ltb-true, ltb-false, leb-true, leb-false, eqb-true, eqb-false, lt-ltb, le-ltb, le-leb, lt-leb, eq-eqb, ne_eqb, not-true, not-false}
+use Rattle.std.proofs.lemmas.Bool.{not_from_true, not_from_false}
 use Rattle.meaning.specs.Base.{pick}
 
 -- P is what a true test says; what a false one says
@@ -61,16 +62,10 @@ module _ {P : Type 0} where
   denies_it {b = false} h = (λ e p. cc (h.1 p), λ n. refl)
 
   pub says_not : {b : Bool} → Denies b P → Says (not b) P
-  says_not {b} h = (λ e. h.0 (not-true b e), λ p. flip (h.1 p))
-    where
-      flip : {b : Bool} → b ≡ false → not b ≡ true
-      flip e = rw e
+  says_not {b} h = (λ e. h.0 (not-true b e), λ p. not_from_false b (h.1 p))
 
   pub denies_not : {b : Bool} → Says b P → Denies (not b) P
-  denies_not {b} h = (λ e. h.0 (not-false b e), λ p. flip (h.1 p))
-    where
-      flip : {b : Bool} → b ≡ true → not b ≡ false
-      flip e = rw e
+  denies_not {b} h = (λ e. h.0 (not-false b e), λ p. not_from_true b (h.1 p))
 
 module _ (a b : ℕ) where
   pub says_lt : Says (ltb a b) (a < b)

@@ -10,7 +10,8 @@ use lib.Dec.{T, eqb, leb, ltb}
 use lib.IntN.{ℤ, pos, negsuc}
 use lib.Signed.{le_z, ◌≤ℤ◌}
 use lib.ListN.{length}
-use borrow.Author.Tests.{eqb-true, eqb-false, eq-eqb, leb-true, le-leb}
+use borrow.Author.Tests.{eqb-true, eq-eqb, leb-true, le-leb}
+use Rattle.std.proofs.lemmas.Bool.{cases_eq}
 use Rattle.meaning.specs.declared.Value.{Value}
 use Rattle.meaning.specs.Base.{same_text}
 use Rattle.meaning.specs.Table.{Content, a_three, a_text, an_int, a_hex, entries, kind_of, read_of, content_in, content_of, three_in, value_of}
@@ -83,11 +84,7 @@ says_empty [] = (λ e. refl, λ e. refl)
 says_empty (x ∷ l) = (λ e. absurd (omega (arith, eqb-true (length (x ∷ l)) 0 e)), λ e. ap is_empty e)
 
 not-one : (v : ℕ) → v ≤ 2 → (v ≡ 1 → ⊥) ↔ ((v ≡ 0) ⊎ (v ≡ 2))
-not-one v le = (λ n. by (eqb v 0) refl n, ⊎_elim (λ e f. omega arith) (λ e f. omega arith))
-  where
-    by : (b : Bool) → eqb v 0 ≡ b → (v ≡ 1 → ⊥) → (v ≡ 0) ⊎ (v ≡ 2)
-    by true e n = inl (eqb-true v 0 e)
-    by false e n = let z = eqb-false v 0 e in inr (omega arith)
+not-one v le = (λ n. ⊎_elim inl (λ z. inr (omega arith)) (cases_eq v 0), ⊎_elim (λ e f. omega arith) (λ e f. omega arith))
 
 pub says_typed : (y : ℕ) (c : Content) → three_in c ≤ 2 → Says (type_fits y c) (Typed y c)
 says_typed y (a_three v) le = says_or (says_and (says_eq y 0) (Iff.trans (says_unlike v 1) (not-one v le))) (says_eq y 1)

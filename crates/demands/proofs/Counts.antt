@@ -6,8 +6,9 @@ use mathlib.Core.Bool.{Bool, true, false, false≢true}
 use mathlib.Core.Logic.{◌⊎◌, inl, inr, ⊎_elim}
 use native.Mathlib.Nat.{not-suc-le-zero, eq-or-lt_of_le, le_of_suc-le-suc}
 use native.Mathlib.Omega.{arith}
-use lib.Dec.{eqb, ltb}
-use borrow.Author.Tests.{eq-eqb, ne_eqb, ltb-true, ltb-false, leb-true, le-leb}
+use lib.Dec.{eqb}
+use borrow.Author.Tests.{eq-eqb, ne_eqb, leb-true, le-leb}
+use Rattle.std.proofs.lemmas.Bool.{cases_order}
 use Rattle.meaning.specs.Base.{pick, fold, count_below, first_where}
 use Rattle.meaning.specs.Rules.{at_least}
 use Rattle.demands.specs.Broken.{Least}
@@ -101,19 +102,7 @@ unfolding at_least
 at_least_mono v w le n k = count_mono _ _ (λ j h. le-leb k (w j) (omega (arith, leb-true k (v j) h, le j))) n
 
 -- LEAST
--- a number is below another or not
-pub below_or_past : (i n : ℕ) → (i < n) ⊎ (n ≤ i)
-below_or_past i n = by (ltb i n) refl
-  where
-    by : (b : Bool) → ltb i n ≡ b → (i < n) ⊎ (n ≤ i)
-    by true e = inl (ltb-true i n e)
-    by false e = inr (ltb-false i n e)
-
--- one of two numbers is less, or they are equal
-pub order : (a b : ℕ) → (a < b) ⊎ ((a ≡ b) ⊎ (b < a))
-order a b = ⊎_elim inl (λ le. ⊎_elim (λ e. inr (inl (sym e))) (λ l. inr (inr l)) (eq-or-lt_of_le le)) (below_or_past a b)
-
 -- there is one least only
 pub least_unique : {P : ℕ → Type 0} {i j : ℕ} → Least P i → Least P j → i ≡ j
 least_unique {i = i} {j = j} h k =
-    ⊎_elim (λ l. absurd (k.1 i l h.0)) (⊎_elim (λ e. e) (λ l. absurd (h.1 j l k.0))) (order i j)
+    ⊎_elim (λ e. e) (⊎_elim (λ l. absurd (k.1 i l h.0)) (λ l. absurd (h.1 j l k.0))) (cases_order i j)

@@ -2,14 +2,14 @@
 -- from what its Lower, its Default, its counts and its comparisons say. Assumes nothing.
 use Prim.Native.Nat.{ℕ, ◌≤◌, ◌<◌, max}
 use mathlib.Core.Path.{◌≡◌, refl, sym, ◌∙◌, subst}
-use mathlib.Core.Bool.{Bool, true, false, ◌&&◌, not, and-eq-true_iff}
+use mathlib.Core.Bool.{Bool, true, ◌&&◌, not, and-eq-true_iff}
 use mathlib.Core.Logic.Iff
-use mathlib.Core.Logic.{◌⊎◌, ◌↔◌, ◌≢◌}
+use mathlib.Core.Logic.{◌⊎◌, ◌↔◌, ◌≢◌, ⊎_elim}
 use mathlib.Core.List.{List, []}
 use native.Mathlib.Omega.{arith}
 use lib.Dec.{eqb, leb, ltb}
-use borrow.Author.Tests.{eqb-true, eqb-false, leb-true, le-leb, ltb-true, ltb-false, eq-eqb}
-use Rattle.meaning.specs.Base.{count_below}
+use borrow.Author.Tests.{eqb-true, leb-true, le-leb, eq-eqb}
+use Rattle.std.proofs.lemmas.Bool.{cases_lt, cases_eq}
 use Rattle.meaning.specs.Book.{type_of, range_symbol, low_of, high_of, range_condition, choices, choice_kind, mandatory_of, choice_prompt, member_count, member_of, modules_of, modules_declared}
 use Rattle.meaning.specs.Table.{a_text, content_of, value_of}
 use Rattle.meaning.specs.Values.{val, leaf_of, node_values, lower_of, default_of, default_content, prompt_value}
@@ -115,11 +115,8 @@ module _ (m t : List ℕ) (c : ℕ) where
 
   -- of two that are above n one is another than i
   other_than : (i a b : ℕ) → a < b → b < n → 0 < v a → 0 < v b → i < n → v i ≡ 2 → Beside
-  other_than i a b ab bn pa pb ni y = by (eqb i a) refl
-    where
-      by : (q : Bool) → eqb i a ≡ q → Beside
-      by true e = let z = eqb-true i a e in (i, b, ni, bn, (λ f. omega arith), y, pb)
-      by false e = (i, a, ni, omega arith, eqb-false i a e, y, pa)
+  other_than i a b ab bn pa pb ni y = 
+      ⊎_elim (λ z. (i, b, ni, bn, (λ f. omega arith), y, pb)) (λ ne. (i, a, ni, omega arith, ne, y, pa)) (cases_eq i a)
 
   beside : 2 ≤ some_of m t c → 1 ≤ ys_of m t c → Beside
   unfolding some_of ys_of at_least
@@ -131,13 +128,9 @@ module _ (m t : List ℕ) (c : ℕ) where
 
   two_of : (i j : ℕ) → i < n → j < n → i ≢ j → 0 < v i → 0 < v j → 2 ≤ some_of m t c
   unfolding some_of at_least
-  two_of i j li lj ne pi pj = by (ltb i j) refl
-    where
-      by : (q : Bool) → ltb i j ≡ q → 2 ≤ count_below (λ k. leb 1 (v k)) n
-      by true e = count-two (λ k. leb 1 (v k)) n (i, j, ltb-true i j e, lj, le-leb 1 (v i) pi, le-leb 1 (v j) pj)
-      by false e =
-          let less : j < i = omega (arith, ltb-false i j e) in
-          count-two (λ k. leb 1 (v k)) n (j, i, less, li, le-leb 1 (v j) pj, le-leb 1 (v i) pi)
+  two_of i j li lj ne pi pj = 
+      ⊎_elim (λ l. count-two (λ k. leb 1 (v k)) n (i, j, l, lj, le-leb 1 (v i) pi, le-leb 1 (v j) pj))
+      (λ l. count-two (λ k. leb 1 (v k)) n (j, i, omega arith, li, le-leb 1 (v j) pj, le-leb 1 (v i) pi)) (cases_lt i j)
 
   yes_of : (i : ℕ) → i < n → v i ≡ 2 → 1 ≤ ys_of m t c
   unfolding ys_of at_least
@@ -190,13 +183,9 @@ module _ (m t : List ℕ) (c : ℕ) where
   says_other y j = says_and (says_lt 0 (v j)) (says_unlike j y)
 
   some_other : (y : ℕ) → Beside → Some (λ j. ltb 0 (v j) && not (eqb j y)) n
-  some_other y b = by (eqb b.1 y) refl
-    where
-      by : (q : Bool) → eqb b.1 y ≡ q → Some (λ j. ltb 0 (v j) && not (eqb j y)) n
-      by true e =
-          let z = eqb-true b.1 y e in
-          (b.0, b.2, (says_other y b.0).1 (omega (arith, b.5), λ f. b.4 (f ∙ sym z)))
-      by false e = (b.1, b.3, (says_other y b.1).1 (b.6, eqb-false b.1 y e))
+  some_other y b = 
+      ⊎_elim (λ z. (b.0, b.2, (says_other y b.0).1 (omega (arith, b.5), λ f. b.4 (f ∙ sym z)))) (λ ne. (b.1, b.3, (says_other y b.1).1 (b.6, ne)))
+      (cases_eq b.1 y)
 
   pub second-one : broken15 p (some_of m t c) (ys_of m t c) ≡ true → Second m t (one c) (member_of m c (other_of m t c))
   unfolding other_of first_yes

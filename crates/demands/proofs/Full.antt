@@ -12,6 +12,7 @@ use lib.Pow.{pow_mono}
 use lib.ListN.{length, get_or, set, length-append}
 use lib.Seq.{get_or_at, set_at}
 use borrow.Author.Tests.{eq-eqb}
+use Rattle.std.proofs.lemmas.Bool.{cases_lt}
 use Rattle.std.specs.Prelude.{Ok, Err}
 use Rattle.meaning.specs.Base.{Outcome, Clean, pick, tabulate, when}
 use Rattle.meaning.specs.Book.{symbols, selects, type_of, WellFormed}
@@ -25,7 +26,6 @@ use Rattle.meaning.proofs.Folds.{tabulate_at, tabulate_past, tabulate-length}
 use Rattle.demands.specs.Refused.{GoodHead}
 use Rattle.demands.proofs.Lifts.{full_n, Is, is_lifts}
 use Rattle.demands.proofs.Relate.{Rel, nil, cons, snoc, rel_at}
-use Rattle.demands.proofs.Counts.{below_or_past}
 use Rattle.demands.proofs.Bytes.{At, at_whole, at_read, at_skip, at_half}
 use Rattle.demands.proofs.Trees.{WalkedThrough, leaf_walked, two-walked, three-walked}
 use Rattle.demands.proofs.Leaves.{readable, Good, good_rules, good20}
@@ -159,7 +159,7 @@ module _ (m : List ℕ) (q : ℕ) (wf : WellFormed m) (all : (s : ℕ) → s < s
       ⊎_elim
       (λ lt. rw (tabulate_at (type_of m) 0 (symbols m) i lt) (all i lt))
       (λ le. rw (tabulate_past (type_of m) 0 (symbols m) i le) (omega arith))
-      (below_or_past i (symbols m))
+      (cases_lt i (symbols m))
 
   start : Chosen m (types m) [] (full_sets m)
   unfolding full_sets
@@ -192,7 +192,7 @@ tree_long m q (y ∷ ts) vs =
     omega (arith, pow-suc 2 (length ts), long)
 
 few-symbols : (m : List ℕ) (q : ℕ) → length (complete m q) ≤ 65535 → symbols m ≤ 64
-few-symbols m q le = ⊎_elim (λ lt. omega arith) (λ many. absurd (long many)) (below_or_past (symbols m) 16)
+few-symbols m q le = ⊎_elim (λ lt. omega arith) (λ many. absurd (long many)) (cases_lt (symbols m) 16)
   where
     long : 16 ≤ symbols m → ⊥
     long many =

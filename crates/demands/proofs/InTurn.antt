@@ -3,16 +3,16 @@
 use Prim.Native.Nat.{ℕ, ◌+◌, ◌*◌, ◌≤◌, ◌<◌}
 use mathlib.Core.Path.{◌≡◌, refl}
 use mathlib.Core.Bool.{Bool, true, false, ◌&&◌, not}
-use mathlib.Core.Logic.Iff
 use mathlib.Core.List.{List}
 use native.Mathlib.Omega.{arith}
 use lib.Dec.{eqb, leb, ltb}
 use lib.ListN.{length, drop, length-take, length-drop}
 use borrow.Author.Tests.{leb-true, ltb-true, ne_eqb}
+use Rattle.std.proofs.lemmas.Bool.{and_parts}
 use Rattle.meaning.specs.Base.{Clean, Fault, pick, part, or_else}
 use Rattle.meaning.specs.Book.{symbols, nodes, texts, end_of, type_of, name_start, name_offset, name_length, spelled_name, prompt_of, depend_of, new_name, name_bytes, digits_alone, name_ok, symbol_ok, book_fault, WellFormed, name_place, name_place_in}
 use Rattle.meaning.specs.Rules.{verdict_in, node_work_in, verdict, node_work}
-use Rattle.demands.proofs.Bools.{says_and, pick-cases, denies_zero}
+use Rattle.demands.proofs.Bools.{pick-cases, denies_zero}
 use Rattle.demands.proofs.Refusals.{book_iff}
 
 -- THE TABLE CHECK. A book without fault: the check after it, and its node work. Another: the book's own fault, and the node work stays
@@ -36,16 +36,13 @@ module _ (m t : List ℕ) where
     work_of_bad_book w = rw fault
 
 -- THE NAME
-both : (a b : Bool) → a && b ≡ true → (a ≡ true) × (b ≡ true)
-both a b = (says_and {a = a} {b = b} Iff.rfl Iff.rfl).0
-
 -- of five tests that all hold, the first three
 first_three : (a b c d e : Bool) → a && b && c && d && e ≡ true → (a ≡ true) × (b ≡ true) × (c ≡ true)
 first_three a b c d e h =
-    let four = both (a && b && c && d) e h in
-    let three = both (a && b && c) d four.0 in
-    let two = both (a && b) c three.0 in
-    let one = both a b two.0 in
+    let four = and_parts (a && b && c && d) e h in
+    let three = and_parts (a && b && c) d four.0 in
+    let two = and_parts (a && b) c three.0 in
+    let one = and_parts a b two.0 in
     (one.0, one.1, two.1)
 
 module _ (m : List ℕ) (s : ℕ) where

@@ -8,6 +8,7 @@ use mathlib.Core.List.{List, []}
 use native.Mathlib.Omega.{arith}
 use lib.Dec.{eqb, leb, ltb}
 use borrow.Author.Tests.{leb-true, le-leb, eqb-true, eq-eqb, le-ltb}
+use Rattle.std.proofs.lemmas.Bool.{cases_lt}
 use Rattle.meaning.specs.Base.{pick, half}
 use Rattle.meaning.specs.Book.{symbols, type_of, selects, defaults, prompt_of, depend_of, default_value, default_condition, selector_of, target_of, condition_of, mandatory_of, choice_prompt, member_count, member_of, modules_of, modules_declared}
 use Rattle.meaning.specs.Table.{a_three, read_of, content_of, value_of}
@@ -21,7 +22,7 @@ use Rattle.demands.proofs.Lifts.{in_small, only_in, full_n, every_at, every_all,
 use Rattle.demands.proofs.Relate.{set_rel, node}
 use Rattle.demands.proofs.Tabulated.{full_at, full_past}
 use Rattle.demands.proofs.Exact.{Each, put, put_same, selectors, conditions, Lowered, lower_in, lower_from_lem, applied, values, Defaulted, default_in, default_from_lem}
-use Rattle.demands.proofs.Counts.{at_least_mono, below_or_past}
+use Rattle.demands.proofs.Counts.{at_least_mono}
 
 pick_imp : (c : Bool) {a a' b b' : Bool} → (a ≡ true → b ≡ true) → (a' ≡ true → b' ≡ true) → pick c a a' ≡ true → pick c b b' ≡ true
 pick_imp true f g h = f h
@@ -255,7 +256,7 @@ whole_nonempty : (m : List ℕ) → NonEmptySets (full_sets m)
 unfolding has
 whole_nonempty m i = (
   0,
-  ⊎_elim (λ lt. rw (full_at m i lt) (full_n (type_of m i))) (λ le. rw (full_past m i le)) (below_or_past i (symbols m)),
+  ⊎_elim (λ lt. rw (full_at m i lt) (full_n (type_of m i))) (λ le. rw (full_past m i le)) (cases_lt i (symbols m)),
 )
 
 pub path_nonempty : (m ys : List ℕ) → Path m ys → NonEmptySets ys

@@ -8,6 +8,7 @@ use mathlib.Core.List.{List}
 use native.Mathlib.Omega.{arith}
 use lib.Dec.{leb}
 use borrow.Author.Tests.{le-ltb, leb-true, ne_eqb}
+use Rattle.std.proofs.lemmas.Bool.{cases_lt}
 use Rattle.meaning.specs.Book.{symbols, type_of, three_type}
 use Rattle.meaning.specs.Table.{Content, a_three, a_text, an_int, a_hex, entries, read_of, content_of, three_in, value_of}
 use Rattle.meaning.specs.Rules.{type_fits}
@@ -15,7 +16,6 @@ use Rattle.meaning.specs.Sets.{has, only, full, sat, full_sets}
 use Rattle.meaning.specs.Picks.{In}
 use Rattle.demands.proofs.Contents.{value-three}
 use Rattle.demands.proofs.Lifts.{each_of, only_in, full_n}
-use Rattle.demands.proofs.Counts.{below_or_past}
 use Rattle.demands.proofs.Tabulated.{full_at, full_past}
 
 -- past the entries it is n
@@ -53,7 +53,7 @@ module _ (m t : List ℕ) (counted : entries t ≡ symbols m) (fits : (i : ℕ) 
       ⊎_elim
       (λ lt. fits-three (type_of m i) (content_of t i) small (fits i lt))
       (λ le. rw (past_entries t i (rw counted le)))
-      (below_or_past i (symbols m))
+      (cases_lt i (symbols m))
 
   pub typed_in : (i : ℕ) → In (sat (full_sets m) i) (value_of t i)
   unfolding value_of only
@@ -61,4 +61,4 @@ module _ (m t : List ℕ) (counted : entries t ≡ symbols m) (fits : (i : ℕ) 
       ⊎_elim
       (λ lt. rw (full_at m i lt) (fits-full (type_of m i) (content_of t i) (value-three t i) (fits i lt)))
       (λ le. rw (full_past m i le, past_entries t i (rw counted le)) (only_in 0 (omega arith)))
-      (below_or_past i (symbols m))
+      (cases_lt i (symbols m))
