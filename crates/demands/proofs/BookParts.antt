@@ -27,19 +27,19 @@ shift_least P n p = (there p, back p)
   where
     there : (p : ℕ) → ((i : ℕ) × Least (λ j. (j < n) × P (j + 1)) i × (p ≡ i + 1)) → Least (λ k. (0 < k) × ((k ≤ n) × P k)) p
     there p x = (
-      (omega (arith, x.2), (omega (arith, x.2, x.1.0.0), rw x.2 x.1.0.1)),
+      (omega arith, (omega arith, rw x.2 x.1.0.1)),
       (λ k l y. below k l y),
     )
       where
         below : (k : ℕ) → k < p → ¬ ((0 < k) × ((k ≤ n) × P k))
         below zero l y = not-suc-le-zero y.0
-        below (suc k) l y = x.1.1 k (omega (arith, x.2)) (y.1.0, rw add-one y.1.1)
+        below (suc k) l y = x.1.1 k (omega arith) (y.1.0, rw add-one y.1.1)
 
     back : (p : ℕ) → Least (λ k. (0 < k) × ((k ≤ n) × P k)) p → (i : ℕ) × Least (λ j. (j < n) × P (j + 1)) i × (p ≡ i + 1)
     back zero h = absurd (not-suc-le-zero h.0.0)
     back (suc i) h = (
       i,
-      ((h.0.1.0, rw add-one h.0.1.1), λ j l y. h.1 (j + 1) (omega arith) (omega arith, (omega (arith, y.0), y.1))),
+      ((h.0.1.0, rw add-one h.0.1.1), λ j l y. h.1 (j + 1) (omega arith) (omega arith, (omega arith, y.1))),
       omega arith,
     )
 
@@ -107,7 +107,7 @@ module _ (m : List ℕ) where
       there : (n p s : ℕ) → Raw n p s → FirstRecord p s × (n ≡ 3)
       there n p s x =
           let y = x.2 in (
-            (omega (arith, y.3), omega (arith, y.3, x.1), rw y.3 ((good_shift x.0).0 x.3), rw (y.3, y.4) y.1),
+            (omega arith, omega arith, rw y.3 ((good_shift x.0).0 x.3), rw (y.3, y.4) y.1),
             y.2,
           )
 
@@ -175,9 +175,9 @@ module _ (m : List ℕ) where
             let bad : member_ok m d (first_member m d + i) ≡ false = rw b.4 at b.5 in
             ⊎_elim
             (λ (same : d ≡ c).
-            least.1 i (omega (arith, b.4, ap (first_member m) same))
+            least.1 i (omega (arith, ap (first_member m) same))
             (subst (λ q. (i < member_count m q) × (member_ok m q (first_member m q + i) ≡ false)) same (b.3, bad)))
-            (⊎_elim (λ less. cc (before d less i b.3)) (λ more. omega (arith, b.4, in_order c d more b.2, least.0.0)))
+            (⊎_elim (λ less. cc (before d less i b.3)) (λ more. omega (arith, in_order c d more b.2)))
             (cases_order d c)
 
     back : (n p s : ℕ) → (p ≡ 7) × Least (BadMember m) s × (n ≡ 3) → Raw n p s
@@ -190,14 +190,14 @@ module _ (m : List ℕ) where
           b.2,
           (
             j,
-            ((b.3, rw b.4 at b.5), λ i l y. h.1.1 (first_member m c + i) (omega (arith, b.4)) (c, i, b.2, y.0, refl, y.1)),
+            ((b.3, rw b.4 at b.5), λ i l y. h.1.1 (first_member m c + i) (omega arith) (c, i, b.2, y.0, refl, y.1)),
             h.2,
             h.0,
             b.4,
           ),
           (λ d l i li.
               eq-true_of_not-eq-false
-              (λ bad. h.1.1 (first_member m d + i) (omega (arith, in_order d c l b.2, li, b.4)) (d, i, omega (arith, l, b.2), li, refl, bad))),
+              (λ bad. h.1.1 (first_member m d + i) (omega (arith, in_order d c l b.2)) (d, i, omega arith, li, refl, bad))),
         )
 
   records_search : Search (records_fault m) (Recorded m) (λ n p s. BadRecord m p s × (n ≡ 3))

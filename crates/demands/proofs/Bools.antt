@@ -104,6 +104,3 @@ or_assoc = (⊎_elim (⊎_elim inl (λ q. inr (inl q))) (λ r. inr (inr r)), ⊎
 
 pub or_four : {P Q R S : Type 0} → (((P ⊎ Q) ⊎ R) ⊎ S) ↔ (P ⊎ (Q ⊎ (R ⊎ S)))
 or_four = Iff.trans or_assoc or_assoc
-
-pub none_of : {P Q R : Type 0} → ¬ P → ¬ Q → ¬ R → ¬ (P ⊎ (Q ⊎ R))
-none_of p q r = ⊎_elim p (⊎_elim q r)

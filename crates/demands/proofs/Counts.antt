@@ -28,7 +28,7 @@ module _ (p : ℕ → Bool) where
     where
       by : (b : Bool) → p n ≡ b → (1 ≤ count_below p n → Some n) → 1 ≤ pick b 1 0 + count_below p n → Some (suc n)
       by true e more g = (n, omega arith, e)
-      by false e more g = let x = more (omega arith) in (x.0, omega (arith, x.1), x.2)
+      by false e more g = let x = more (omega arith) in (x.0, omega arith, x.2)
 
   pub two-counted : (n : ℕ) → 2 ≤ count_below p n → Two n
   unfolding count_below fold
@@ -37,7 +37,7 @@ module _ (p : ℕ → Bool) where
     where
       by : (b : Bool) → p n ≡ b → (2 ≤ count_below p n → Two n) → 2 ≤ pick b 1 0 + count_below p n → Two (suc n)
       by true e more g = let x = some_counted n (omega arith) in (x.0, n, x.1, omega arith, x.2, e)
-      by false e more g = let x = more (omega arith) in (x.0, x.1, x.2, omega (arith, x.3), x.4, x.5)
+      by false e more g = let x = more (omega arith) in (x.0, x.1, x.2, omega arith, x.4, x.5)
 
   -- one more turn counts no less
   count_grows : (n : ℕ) → count_below p n ≤ count_below p (suc n)
@@ -72,8 +72,8 @@ module _ (p : ℕ → Bool) where
   ends_more n i true e (inl h) = rw (eq-eqb i n h.0) (inr (omega arith, e, h.1))
   ends_more n i false e (inl h) =
       rw (eq-eqb i n h.0) (inl (refl, λ k l. ⊎_elim (λ q. rw q e) (h.1 k) (eq-or-lt_of_le (le_of_suc-le-suc l))))
-  ends_more n i true e (inr h) = rw (ne_eqb i n (λ q. omega (arith, h.0))) (inr (omega (arith, h.0), h.1, h.2))
-  ends_more n i false e (inr h) = rw (ne_eqb i n (λ q. omega (arith, h.0))) (inr (omega (arith, h.0), h.1, h.2))
+  ends_more n i true e (inr h) = rw (ne_eqb i n (λ q. omega arith)) (inr (omega arith, h.1, h.2))
+  ends_more n i false e (inr h) = rw (ne_eqb i n (λ q. omega arith)) (inr (omega arith, h.1, h.2))
 
   ends : (n : ℕ) → Ends n (first_where p n)
   unfolding first_where Ends

@@ -74,10 +74,10 @@ module _ (m t : List ℕ) {s : ℕ} where
 
     first-least : {d : ℕ} → FirstDefault m t s d → Least (Applies m t s) d
     unfolding Applies
-    first-least h = ((h.stands, h.on, h.applies), λ k lt x. omega (arith, h.before k lt x.1, x.2))
+    first-least h = ((h.stands, h.on, h.applies), λ k lt x. omega (arith, h.before k lt x.1))
 
     silent : {d : ℕ} → FirstDefault m t s d → NoDefault m t s → ⊥
-    silent {d} h g = omega (arith, h.applies, g d h.stands h.on)
+    silent {d} h g = omega (arith, g d h.stands h.on)
 
     pub default_unique : {x y : A} → IsDefault m t s has none x → IsDefault m t s has none y → x ≡ y
     default_unique (inl h) (inl g) = h.2 ∙ ap has (least_unique (first-least h.1) (first-least g.1)) ∙ sym g.2

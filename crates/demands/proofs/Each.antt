@@ -59,7 +59,7 @@ module _ (m t : List ℕ) where
           (λ q. (
             (λ k e i h g. subst (λ x. (0 < p) ⊎ (v ≡ max x k)) (default_unique m t _ 0 (default_is m t) g)
                 (subst (λ x. (0 < p) ⊎ (v ≡ max d x)) (lower_unique m t (lower_is m t) h) q)),
-            (λ e i g. absurd (omega (arith, three.1, i.1))),
+            (λ e i g. absurd (omega arith)),
           )),
           (λ h. h.0 l d three (lower_is m t) (default_is m t)),
         )
@@ -73,7 +73,7 @@ module _ (m t : List ℕ) where
       let d = default_content m t vs s in
       Iff.trans (denies_and (denies_zero p) (denies_not (says_content v d))) (
         (λ q. (
-          (λ k e i h g. absurd (omega (arith, other.1, i.1))),
+          (λ k e i h g. absurd (omega arith)),
           (λ e i g. subst (λ x. (0 < p) ⊎ (v ≡ x)) (default_unique m t _ (a_text []) (content_is m t) g) q),
         )),
         (λ h. h.1 d other (content_is m t)),
@@ -149,7 +149,7 @@ module _ (m t : List ℕ) (c : ℕ) where
               omega arith),
           (λ h x.
               let b = beside x.0.1 x.1 in
-              omega (arith, b.6, h b.0 b.1 (lt, x.0.0) b.2 b.3 b.4 b.5)),
+              omega (arith, h b.0 b.1 (lt, x.0.0) b.2 b.3 b.4 b.5)),
         )
 
     -- 16
@@ -184,7 +184,7 @@ module _ (m t : List ℕ) (c : ℕ) where
 
   some_other : (y : ℕ) → Beside → Some (λ j. ltb 0 (v j) && not (eqb j y)) n
   some_other y b = 
-      ⊎_elim (λ z. (b.0, b.2, (says_other y b.0).1 (omega (arith, b.5), λ f. b.4 (f ∙ sym z)))) (λ ne. (b.1, b.3, (says_other y b.1).1 (b.6, ne)))
+      ⊎_elim (λ z. (b.0, b.2, (says_other y b.0).1 (omega arith, λ f. b.4 (f ∙ sym z)))) (λ ne. (b.1, b.3, (says_other y b.1).1 (b.6, ne)))
       (cases_eq b.1 y)
 
   pub second-one : broken15 p (some_of m t c) (ys_of m t c) ≡ true → Second m t (one c) (member_of m c (other_of m t c))

@@ -112,7 +112,7 @@ search_each {b} {P} {Q} num q r k says denies =
                 let x = f.0 e in
                 (x.0, ((x.1, x.2.0), λ j l y. clash j (x.3 j l) y.1), x.2.1, x.2.2, x.2.3)),
             (λ x.
-                f.1 (x.0, x.1.0.0, (x.1.0.1, x.2, x.3, x.4), λ j l. (denies j).0 (absent j (λ y. x.1.1 j l (omega (arith, x.1.0.0), y))))),
+                f.1 (x.0, x.1.0.0, (x.1.0.1, x.2, x.3, x.4), λ j l. (denies j).0 (absent j (λ y. x.1.1 j l (omega arith, y))))),
           );
     }
   where

@@ -171,7 +171,7 @@ module _ (m : List ℕ) (q : ℕ) (wf : WellFormed m) (all : (s : ℕ) → s < s
       let f = complete m q in
       let here : At f 4 (tree m q ++ []) = rw append-nil (tree_at m q) in
       let w = tree_walked f (types m) [] (full_sets m) 64 start types_small (rw (tabulate-length (type_of m) (symbols m)) few) [] 4 here in
-      let end : w.to ≡ length f = omega (arith, w.left.ends) in
+      let end : w.to ≡ length f = omega arith in
       rw (complete-select m q, w.walk, eq-eqb w.to (length f) end)
 
 -- LENGTH: it doubles with each symbol at least, so what can be read has few symbols
@@ -189,7 +189,7 @@ tree_long m q [] vs = leaf-long q (rule_fault m (table_of vs))
 tree_long m q (y ∷ ts) vs =
     let below : ℕ → List ℕ = λ v. complete_tree m q ts (vs ++ (v ∷ [])) in
     let long = both_long (eqb y 0) (2 ^ length ts) (below 0) (below 2) (below 1) (tree_long m q ts _) (tree_long m q ts _) in
-    omega (arith, pow-suc 2 (length ts), long)
+    omega (arith, pow-suc 2 (length ts))
 
 few-symbols : (m : List ℕ) (q : ℕ) → length (complete m q) ≤ 65535 → symbols m ≤ 64
 few-symbols m q le = ⊎_elim (λ lt. omega arith) (λ many. absurd (long many)) (cases_lt (symbols m) 16)
@@ -198,7 +198,7 @@ few-symbols m q le = ⊎_elim (λ lt. omega arith) (λ many. absurd (long many))
     long many =
         let doubled : 2 ^ symbols m ≤ length (tree m q) = rw (tabulate-length (type_of m) (symbols m)) at (tree_long m q (types m) []) in
         let power : 2 ^ 16 ≡ 65536 = refl in
-        omega (arith, power, pow_mono many, doubled, (tree_at m q).ends)
+        omega (arith, pow_mono many, (tree_at m q).ends)
 
 -- THE COMPLETE CLEARANCE as a finding
 pub complete_head : (m : List ℕ) (q : ℕ) → q < selects m → length (complete m q) ≤ 65535 → GoodHead m (complete m q)

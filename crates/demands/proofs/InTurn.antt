@@ -53,7 +53,7 @@ module _ (m : List ℕ) (s : ℕ) where
 
   cut : 0 < length (spelled_name m s) → name_start m s + length (spelled_name m s) ≤ length m
   unfolding part
-  cut h = omega (arith, h, length-take (name_length m s) (drop (name_start m s) m), length-drop (name_start m s) m)
+  cut h = omega (arith, length-take (name_length m s) (drop (name_start m s) m), length-drop (name_start m s) m)
 
 -- WHATEVER THE BYTES ARE, the part that is told lies in them, and is no longer than a byte counts
 pub record Inside (m : List ℕ) (s r : ℕ) : Type 0 where
@@ -94,7 +94,7 @@ module _ (m : List ℕ) (s : ℕ) where
       first_three (leb 1 n) (leb n 64) (leb (name_offset m s + n) (texts m)) (name_bytes m (name_start m s) n) (not (digits_alone m (name_start m s) n)) named in
       let some = leb-true 1 n inside.0 in
       let ends = leb-true (name_offset m s + n) (texts m) inside.2 in
-      (omega (arith, w.ended, w.whole, ends, length-take n (drop (name_start m s) m), length-drop (name_start m s) m), omega (arith, some))
+      (omega (arith, length-take n (drop (name_start m s) m), length-drop (name_start m s) m), omega arith)
 
   pub name_in_turn : WellFormed m → name_place m s ≡ name_place_in m s
   unfolding name_place name_place_in
@@ -105,5 +105,5 @@ module _ (m : List ℕ) (s : ℕ) where
           → ltb s (symbols m) ≡ q
           → pick q (4294967296 * name_start m s + name_length m s) 0
           ≡ pick q (pick (eqb (length (spelled_name m s)) 0) 0 (4294967296 * name_start m s + length (spelled_name m s))) 0
-      same true e = let f = fits w (ltb-true s (symbols m) e) in rw (f.0, ne_eqb (name_length m s) 0 (λ z. omega (arith, z, f.1)))
+      same true e = let f = fits w (ltb-true s (symbols m) e) in rw (f.0, ne_eqb (name_length m s) 0 (λ z. omega arith))
       same false e = refl

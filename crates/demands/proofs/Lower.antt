@@ -34,13 +34,13 @@ module _ (m : List ℕ) (gives : ℕ → ℕ) (s : ℕ) where
       larger true q = inr (n, omega arith, eqb-true (target_of m n) s e, omega (arith, leb-true l (gives n) q))
       larger false q =
           let more = leb-false l (gives n) q in
-          ⊎_elim (λ z. inl (omega arith)) (λ x. inr (x.0, omega (arith, x.1), x.2, omega (arith, x.3))) h.reached
+          ⊎_elim (λ z. inl (omega arith)) (λ x. inr (x.0, omega arith, x.2, omega arith)) h.reached
   by_more n l false e h =
       record {
         bounds = λ k lt on.
             ⊎_elim (λ q. absurd (eqb-false (target_of m n) s e (subst (λ i. target_of m i ≡ s) q on))) (λ below. h.bounds k below on)
             (eq-or-lt_of_le (le_of_suc-le-suc lt));
-        reached = ⊎_elim inl (λ x. inr (x.0, omega (arith, x.1), x.2, x.3)) h.reached;
+        reached = ⊎_elim inl (λ x. inr (x.0, omega arith, x.2, x.3)) h.reached;
       }
 
   by_all : (n : ℕ) → LowerBy n (fold (lower_step m gives s) 0 n)
@@ -54,7 +54,7 @@ module _ (m t : List ℕ) {s : ℕ} where
   lower_is = let h = by_all m (given m t (node_values m t)) s (selects m) in record { bounds = h.bounds; reached = h.reached }
 
   bounded : {l k : ℕ} → IsLower m t s l → IsLower m t s k → l ≤ k
-  bounded h g = ⊎_elim (λ e. omega arith) (λ x. omega (arith, x.3, g.bounds x.0 x.1 x.2)) h.reached
+  bounded h g = ⊎_elim (λ e. omega arith) (λ x. omega (arith, g.bounds x.0 x.1 x.2)) h.reached
 
   pub lower_unique : {l k : ℕ} → IsLower m t s l → IsLower m t s k → l ≡ k
   lower_unique h g = omega (arith, bounded h g, bounded g h)

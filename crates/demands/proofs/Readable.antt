@@ -28,7 +28,7 @@ module _ (t : List ℕ) (n : ℕ) where
       (Iff.trans (says_or (says_or (says_or (says_lt l 4) (says_unlike (half t 0) l)) (says_unlike (entries t) n)) (says_lt l due)) or_four)
       (Iff.trans
       (denies_or (denies_or (denies_or (denies_lt l 4) (denies_unlike (half t 0) l)) (denies_unlike (entries t) n)) (denies_lt l due))
-      (λ h. (h.1, h.0.0.1, h.0.1), λ h. (((omega (arith, h.0), h.1), h.2), h.0)))
+      (λ h. (h.1, h.0.0.1, h.0.1), λ h. (((omega arith, h.1), h.2), h.0)))
 
   entries_search : Search (first_below (entry_at t n) n) (GoodEntries t n) (λ k p s. Least (BadEntry t n) p × (k ≡ 6) × (s ≡ 65535))
   unfolding entry_at
@@ -87,7 +87,7 @@ module _ (t : List ℕ) (n : ℕ) where
               (λ h.
                   f.1
                   (⊎_elim inl
-                  (λ x. inr (x.0, ⊎_elim inl (λ y. inr (y.0, ((λ q. omega (arith, y.1.0)), y.1.1, y.1.2, y.1.3))) x.1))
+                  (λ x. inr (x.0, ⊎_elim inl (λ y. inr (y.0, ((λ q. omega arith), y.1.1, y.1.2, y.1.3))) x.1))
                   h)),
             );
       }
@@ -102,13 +102,13 @@ module _ (t : List ℕ) (n p s : ℕ) where
   table_fault_5 =
       Iff.trans ((table_search t n).fault 5 p s) (
         ⊎_elim (λ y. (inl y.0, y.2, y.3))
-            (λ y. ⊎_elim (λ z. absurd (omega (arith, z.1))) (λ z. (inr (y.0, z.0, z.1.0), z.1.2, z.1.3)) y.1),
+            (λ y. ⊎_elim (λ z. absurd (omega arith)) (λ z. (inr (y.0, z.0, z.1.0), z.1.2, z.1.3)) y.1),
         (λ x. ⊎_elim (λ y. inl (y, refl, x.1, x.2)) (λ y. inr (y.0, inr (y.1, (y.2, refl, x.1, x.2)))) x.0),
       )
 
   pub table_fault_6 : (table_fault t n ≡ Fault 6 p s) ↔ (GoodContents t n × Least (BadEntry t n) p × (s ≡ 65535))
   table_fault_6 =
       Iff.trans ((table_search t n).fault 6 p s) (
-        ⊎_elim (λ y. absurd (omega (arith, y.1))) (λ y. ⊎_elim (λ z. (y.0, z.0, z.2)) (λ z. absurd (omega (arith, z.1.1))) y.1),
+        ⊎_elim (λ y. absurd (omega arith)) (λ y. ⊎_elim (λ z. (y.0, z.0, z.2)) (λ z. absurd (omega arith)) y.1),
         (λ x. inr (x.0, inl (x.1, refl, x.2))),
       )

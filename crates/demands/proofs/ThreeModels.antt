@@ -54,7 +54,7 @@ module _ (m : List ℕ) (wf : WellFormed m) (all : (s : ℕ) → s < symbols m �
       let y = type_of m (range_symbol m r) in
       let d = range-on m r (wf.range r lt) in
       let low = all (range_symbol m r) d.0 in
-      ⊎_elim (λ e. omega (arith, low, eqb-true y 3 e)) (λ e. omega (arith, low, eqb-true y 4 e)) (or_cases (eqb y 3) (eqb y 4) d.1)
+      ⊎_elim (λ e. omega (arith, eqb-true y 3 e)) (λ e. omega (arith, eqb-true y 4 e)) (or_cases (eqb y 3) (eqb y 4) d.1)
 
   pub boolean_member : (c j : ℕ) → c < choices m → j < member_count m c → choice_kind m c ≡ 0
       → (member_of m c j < symbols m) × (type_of m (member_of m c j) ≡ 0)
@@ -63,4 +63,4 @@ module _ (m : List ℕ) (wf : WellFormed m) (all : (s : ℕ) → s < symbols m �
       let s = member_of m c j in
       let a = and_elim_left _ _ (wf.member c j lc lj) in
       let b = (and-eq-true_iff (ltb s (symbols m)) _).0 a in
-      (ltb-true s (symbols m) b.0, omega (arith, kind, leb-true (type_of m s) (choice_kind m c) b.1))
+      (ltb-true s (symbols m) b.0, omega (arith, leb-true (type_of m s) (choice_kind m c) b.1))

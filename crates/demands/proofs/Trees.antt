@@ -21,14 +21,14 @@ module _ (m : List ℕ) (q : ℕ) (f : List ℕ) where
   read_leaf ys at rule place l h ok =
       let h₁ = at_skip f at (1 ∷ []) _ h in
       let h₂ = at_skip f at (1 ∷ rule ∷ []) _ h in
-      let fits : at + 4 ≤ length f = omega (arith, h.ends) in
+      let fits : at + 4 ≤ length f = omega arith in
       rw (at_read f at 1 _ h, le-leb (at + 4) (length f) fits, at_read f (at + 1) rule _ h₁, at_half f (at + 2) place _ h₂, ok)
 
   read_split : (ys : List ℕ) (at s : ℕ) (l : List ℕ) → At f at (0 ∷ s % 256 ∷ s / 256 ∷ l) → head_of m q f ys at ≡ split_head (sat ys s) s (at + 3)
   unfolding head_of
   read_split ys at s l h =
       let h₁ = at_skip f at (0 ∷ []) _ h in
-      let fits : at + 3 ≤ length f = omega (arith, h.ends) in
+      let fits : at + 3 ≤ length f = omega arith in
       rw (at_read f at 0 _ h, le-leb (at + 3) (length f) fits, at_half f (at + 1) s _ h₁)
 
   -- the walk from `at`, with k splits left, goes on at `to`, and there stands the rest
