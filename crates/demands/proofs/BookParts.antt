@@ -2,20 +2,19 @@
 -- and records are numbered as the document does, and members count by their index, since well-formed choices take them in order. Assumes nothing.
 use Prim.Native.Nat.{ℕ, zero, suc, ◌+◌, ◌≤◌, ◌<◌}
 use mathlib.Core.Path.{◌≡◌, refl, ap, subst}
-use mathlib.Core.Bool.{true, false, ◌&&◌}
-use mathlib.Mathlib.Data.Bool.Basic.{and_elim_left, and_elim_right, eq-true_of_not-eq-false}
+use mathlib.Core.Bool.{true, false}
+use mathlib.Mathlib.Data.Bool.Basic.{eq-true_of_not-eq-false}
 use mathlib.Core.Logic.Iff
 use mathlib.Core.Logic.{◌⊎◌, inl, inr, ◌↔◌, ◌≢◌, ⊎_elim}
 use mathlib.Core.List.{List}
 use native.Mathlib.Nat.{not-suc-le-zero, eq-or-lt_of_le, le_of_suc-le-suc}
 use native.Mathlib.Numerals.{add-one}
 use native.Mathlib.Omega.{arith}
-use lib.Dec.{eqb, leb, ltb}
 use lib.ListN.{length}
-use borrow.Author.Tests.{eqb-true}
+use Rattle.std.proofs.lemmas.Bool.Decides.{nat_tests}
 use Rattle.std.proofs.lemmas.Bool.{cases_order}
 use Rattle.meaning.specs.Base.{first_below}
-use Rattle.meaning.specs.Book.{total, start, count, end_of, due, symbols, nodes, choices, members, type_of, choice_kind, mandatory_of, choice_prompt, first_member, member_count, modules_of, member_due, choice_ok, member_ok, length_fault, chain_at, end_fault, chain_fault, record_ok, record_at, section_fault, unused_fault, member_at, choice_members_fault, members_fault, section_after, records_fault, modules_fault, book_fault, WellFormed}
+use Rattle.meaning.specs.Book.{total, start, count, end_of, due, symbols, choices, members, type_of, first_member, member_count, modules_of, member_due, choice_ok, member_ok, length_fault, chain_at, end_fault, chain_fault, record_ok, record_at, section_fault, unused_fault, member_at, choice_members_fault, members_fault, section_after, records_fault, modules_fault, book_fault, WellFormed}
 use Rattle.demands.specs.Broken.{Least}
 use Rattle.demands.specs.Refused.{BadLength, Sized, BadSection, Chained, BadIn, GoodBelow, BadMember, BadRecord, Recorded, BadModules}
 use Rattle.demands.proofs.Bools.{says_unlike, denies_unlike, says_and, says_or, says_not, denies_and, denies_or, denies_not, denies_it, says_lt, denies_lt, says_eq}
@@ -134,11 +133,7 @@ module _ (m : List ℕ) where
     unfolding record_ok choice_ok
     starts c lt =
         let ok : choice_ok m c ≡ true = good 6 c (omega arith) (omega arith) lt in
-        let kind = leb (choice_kind m c) 1 in
-        let must = leb (mandatory_of m c) 1 in
-        let prompt = ltb (choice_prompt m c) (nodes m) in
-        let first = eqb (first_member m c) (member_due m c) in
-        eqb-true (first_member m c) (member_due m c) (and_elim_right (kind && must && prompt) _ (and_elim_left (kind && must && prompt && first) _ ok))
+        grind (arith, nat_tests)
 
     in_order : (c d : ℕ) → c < d → d < choices m → first_member m c + member_count m c ≤ first_member m d
     unfolding member_due

@@ -7,6 +7,7 @@ use mathlib.Core.Logic.{◌⊎◌, inl, inr, ◌↔◌, ⊎_elim}
 use native.Mathlib.Omega.{arith}
 use lib.Dec.{eqb, leb, ltb}
 use borrow.Author.Tests.{ltb-true, ltb-false, leb-true, leb-false, eqb-true, eqb-false, lt-ltb, le-ltb, le-leb, lt-leb, eq-eqb, ne_eqb, not-true, not-false}
+use Rattle.std.proofs.lemmas.Bool.Decides.{Decides-and, Decides-or}
 use Rattle.std.proofs.lemmas.Bool.{not_from_true, not_from_false}
 use Rattle.meaning.specs.Base.{pick}
 
@@ -36,12 +37,10 @@ pick_rel P false p q = q refl
 
 module _ {P Q : Type 0} where
   pub says_and : {a b : Bool} → Says a P → Says b Q → Says (a && b) (P × Q)
-  says_and {a = true} h k = (λ e. (h.0 refl, k.0 e), λ x. k.1 x.1)
-  says_and {a = false} h k = (λ e. cc, λ x. h.1 x.0)
+  says_and {a} {b} = Decides-and a b
 
   pub says_or : {a b : Bool} → Says a P → Says b Q → Says (a || b) (P ⊎ Q)
-  says_or {a = true} h k = (λ e. inl (h.0 refl), λ x. refl)
-  says_or {a = false} h k = (λ e. inr (k.0 e), ⊎_elim (λ p. cc (h.1 p)) k.1)
+  says_or {a} {b} = Decides-or a b
 
   pub denies_and : {a b : Bool} → Denies a P → Denies b Q → Denies (a && b) (P ⊎ Q)
   denies_and {a = true} h k = (λ e. inr (k.0 e), ⊎_elim (λ p. cc (h.1 p)) k.1)

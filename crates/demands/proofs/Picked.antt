@@ -6,8 +6,9 @@ use mathlib.Core.Bool.{Bool, true, false, ◌&&◌, not, and-eq-true_iff}
 use mathlib.Core.Logic.{◌↔◌, ⊎_elim}
 use mathlib.Core.List.{List, []}
 use native.Mathlib.Omega.{arith}
-use lib.Dec.{eqb, leb, ltb}
-use borrow.Author.Tests.{leb-true, le-leb, eqb-true, eq-eqb, le-ltb}
+use lib.Dec.{eqb}
+use borrow.Author.Tests.{le-ltb}
+use Rattle.std.proofs.lemmas.Bool.Decides.{nat_tests}
 use Rattle.std.proofs.lemmas.Bool.{cases_lt}
 use Rattle.meaning.specs.Base.{pick, half}
 use Rattle.meaning.specs.Book.{symbols, type_of, selects, defaults, prompt_of, depend_of, default_value, default_condition, selector_of, target_of, condition_of, mandatory_of, choice_prompt, member_count, member_of, modules_of, modules_declared}
@@ -38,12 +39,10 @@ and_both false a' b b' f g h = cc
 
 -- 15 stays broken where more members are above n, 17 where fewer are
 up15 : (p a b a' b' : ℕ) → a ≤ a' → b ≤ b' → broken15 p a b ≡ true → broken15 p a' b' ≡ true
-up15 p a b a' b' la lb =
-    and_both (ltb 0 p && leb 2 a) (ltb 0 p && leb 2 a') (leb 1 b) (leb 1 b')
-    (and_imp (ltb 0 p) (λ h. le-leb 2 a' (omega (arith, leb-true 2 a h)))) (λ h. le-leb 1 b' (omega (arith, leb-true 1 b h)))
+up15 p a b a' b' la lb h = grind (arith, nat_tests)
 
 down17 : (p o a a' : ℕ) → a' ≤ a → broken17 p o a ≡ true → broken17 p o a' ≡ true
-down17 p o a a' la = and_imp (ltb 0 p && eqb o 1) (λ h. eq-eqb a' 0 (omega (arith, eqb-true a 0 h)))
+down17 p o a a' la h = grind (arith, nat_tests)
 
 module _ (m : List ℕ) (q : ℕ) (ys ss : List ℕ) (place : ℕ) where
   module _ (k : Picks) (al : Allowed m q ys ss place k) where

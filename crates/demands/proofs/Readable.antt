@@ -2,17 +2,14 @@
 -- end within the table, so bodies that do not end at the total end before it. Assumes nothing.
 use Prim.Native.Nat.{ℕ, zero, suc, ◌+◌, ◌*◌, ◌≤◌}
 use mathlib.Core.Path.{◌≡◌, refl}
-use mathlib.Core.Bool.{◌&&◌}
-use mathlib.Mathlib.Data.Bool.Basic.{and_elim_left, and_elim_right}
 use mathlib.Core.Logic.Iff
 use mathlib.Core.Logic.{◌⊎◌, inl, inr, ◌↔◌, ⊎_elim}
 use mathlib.Core.List.{List}
 use native.Mathlib.Omega.{arith}
-use lib.Dec.{eqb, leb}
 use lib.ListN.{length}
-use borrow.Author.Tests.{leb-true}
+use Rattle.std.proofs.lemmas.Bool.Decides.{nat_tests}
 use Rattle.meaning.specs.Base.{Clean, Fault, half, first_below}
-use Rattle.meaning.specs.Table.{entries, kind_of, length_of, start_of, body_due, length_fits, entry_ok, contents_fault, entry_at, bodies_fault, table_fault, Readable}
+use Rattle.meaning.specs.Table.{entries, body_due, entry_ok, contents_fault, entry_at, bodies_fault, table_fault, Readable}
 use Rattle.demands.specs.Broken.{Least}
 use Rattle.demands.specs.Refused.{BadContents, GoodContents, BadEntry, GoodEntries, BytesLeft}
 use Rattle.demands.proofs.Bools.{says_unlike, denies_unlike, says_or, says_not, denies_or, denies_not, says_lt, denies_lt, or_four}
@@ -45,11 +42,7 @@ module _ (t : List ℕ) (n : ℕ) where
   ends : (k : ℕ) → k ≤ n → GoodContents t n → GoodEntries t n → body_due t n k ≤ length t
   unfolding body_due entry_ok
   ends zero le c good = c.0
-  ends (suc s) le c good =
-      let fits = length_fits (kind_of t s) (length_of t s) in
-      let starts = eqb (start_of t s) (body_due t n s) in
-      let stops = leb (start_of t s + length_of t s) (length t) in
-      leb-true (start_of t s + length_of t s) (length t) (and_elim_right (fits && starts) _ (and_elim_left (fits && starts && stops) _ (good s le)))
+  ends (suc s) le c good = let ok = good s le in grind (arith, nat_tests)
 
   abbrev pub BadTable : ℕ → ℕ → ℕ → Type 0
   BadTable k p s =
