@@ -299,9 +299,4 @@ pub book_cases :
     → (Sized m × Chained m × BadRecord m p s → n ≡ 3 → R)
     → (Sized m × Chained m × Recorded m × BadModules m × (p ≡ modules_of m) × (s ≡ 65535) → n ≡ 4 → R)
     → BadBook m n p s → R
-book_cases m n p s a b c d =
-    ⊎_elim (λ x. a (x.0, x.2, x.3) x.1)
-    (λ x.
-    ⊎_elim (λ y. b (x.0, y.0, y.2) y.1)
-    (λ y. ⊎_elim (λ z. c (x.0, y.0, z.0) z.1) (λ z. d (x.0, y.0, z.0, z.1.0, z.1.2, z.1.3) z.1.1) y.1)
-    x.1)
+book_cases m n p s a b c d = grind (arith, nat_tests)

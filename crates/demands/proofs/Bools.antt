@@ -6,9 +6,9 @@ use mathlib.Core.Logic.Iff
 use mathlib.Core.Logic.{◌⊎◌, inl, inr, ◌↔◌, ⊎_elim}
 use native.Mathlib.Omega.{arith}
 use lib.Dec.{eqb, leb, ltb}
-use borrow.Author.Tests.{ltb-true, ltb-false, leb-true, leb-false, eqb-true, eqb-false, lt-ltb, le-ltb, le-leb, lt-leb, eq-eqb, ne_eqb, not-true, not-false}
+use borrow.Author.Tests.{ltb-true, ltb-false, leb-true, leb-false, eqb-true, eqb-false, lt-ltb, le-ltb, le-leb, lt-leb, eq-eqb, ne_eqb}
+use Rattle.std.proofs.lemmas.Bool.Decides.{nat_tests}
 use Rattle.std.proofs.lemmas.Bool.Decides.{Decides-and, Decides-or}
-use Rattle.std.proofs.lemmas.Bool.{not_from_true, not_from_false}
 use Rattle.meaning.specs.Base.{pick}
 
 -- P is what a true test says; what a false one says
@@ -61,10 +61,10 @@ module _ {P : Type 0} where
   denies_it {b = false} h = (λ e p. cc (h.1 p), λ n. refl)
 
   pub says_not : {b : Bool} → Denies b P → Says (not b) P
-  says_not {b} h = (λ e. h.0 (not-true b e), λ p. not_from_false b (h.1 p))
+  says_not {b} h = grind (arith, nat_tests)
 
   pub denies_not : {b : Bool} → Says b P → Denies (not b) P
-  denies_not {b} h = (λ e. h.0 (not-false b e), λ p. not_from_true b (h.1 p))
+  denies_not {b} h = grind (arith, nat_tests)
 
 module _ (a b : ℕ) where
   pub says_lt : Says (ltb a b) (a < b)
@@ -96,10 +96,10 @@ pub denies_pos : (a : ℕ) → Denies (ltb 0 a) (a ≡ 0)
 denies_pos a = (λ e. omega (arith, ltb-false 0 a e), λ z. rw z)
 
 pub denies_zero : (a : ℕ) → Denies (eqb a 0) (0 < a)
-denies_zero a = (λ e. let n = eqb-false a 0 e in omega arith, λ l. ne_eqb a 0 (λ z. omega arith))
+denies_zero a = grind (arith, nat_tests)
 
 pub or_assoc : {P Q R : Type 0} → ((P ⊎ Q) ⊎ R) ↔ (P ⊎ (Q ⊎ R))
-or_assoc = (⊎_elim (⊎_elim inl (λ q. inr (inl q))) (λ r. inr (inr r)), ⊎_elim (λ p. inl (inl p)) (⊎_elim (λ q. inl (inr q)) inr))
+or_assoc = grind (arith, nat_tests)
 
 pub or_four : {P Q R S : Type 0} → (((P ⊎ Q) ⊎ R) ⊎ S) ↔ (P ⊎ (Q ⊎ (R ⊎ S)))
 or_four = Iff.trans or_assoc or_assoc

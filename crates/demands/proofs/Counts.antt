@@ -7,8 +7,8 @@ use mathlib.Core.Logic.{◌⊎◌, inl, inr, ⊎_elim}
 use native.Mathlib.Nat.{not-suc-le-zero, eq-or-lt_of_le, le_of_suc-le-suc}
 use native.Mathlib.Omega.{arith}
 use lib.Dec.{eqb}
-use borrow.Author.Tests.{eq-eqb, ne_eqb, leb-true, le-leb}
-use Rattle.std.proofs.lemmas.Bool.{cases_order}
+use borrow.Author.Tests.{eq-eqb, leb-true, le-leb}
+use Rattle.std.proofs.lemmas.Bool.Decides.{nat_tests}
 use Rattle.meaning.specs.Base.{pick, fold, count_below, first_where}
 use Rattle.meaning.specs.Rules.{at_least}
 use Rattle.demands.specs.Broken.{Least}
@@ -70,10 +70,9 @@ module _ (p : ℕ → Bool) where
   ends_more : (n i : ℕ) (b : Bool) → p n ≡ b → Ends n i → Ends (suc n) (pick (eqb i n) (pick b n (suc n)) i)
   unfolding Ends
   ends_more n i true e (inl h) = rw (eq-eqb i n h.0) (inr (omega arith, e, h.1))
-  ends_more n i false e (inl h) =
-      rw (eq-eqb i n h.0) (inl (refl, λ k l. ⊎_elim (λ q. rw q e) (h.1 k) (eq-or-lt_of_le (le_of_suc-le-suc l))))
-  ends_more n i true e (inr h) = rw (ne_eqb i n (λ q. omega arith)) (inr (omega arith, h.1, h.2))
-  ends_more n i false e (inr h) = rw (ne_eqb i n (λ q. omega arith)) (inr (omega arith, h.1, h.2))
+  ends_more n i false e (inl h) = grind (arith, nat_tests)
+  ends_more n i true e (inr h) = grind (arith, nat_tests)
+  ends_more n i false e (inr h) = grind (arith, nat_tests)
 
   ends : (n : ℕ) → Ends n (first_where p n)
   unfolding first_where Ends
@@ -104,5 +103,4 @@ at_least_mono v w le n k = count_mono _ _ (λ j h. le-leb k (w j) (omega (arith,
 -- LEAST
 -- there is one least only
 pub least_unique : {P : ℕ → Type 0} {i j : ℕ} → Least P i → Least P j → i ≡ j
-least_unique {i = i} {j = j} h k =
-    ⊎_elim (λ e. e) (⊎_elim (λ l. absurd (k.1 i l h.0)) (λ l. absurd (h.1 j l k.0))) (cases_order i j)
+least_unique {i = i} {j = j} h k = grind (arith, nat_tests)

@@ -9,6 +9,7 @@ use mathlib.Core.List.{List, []}
 use native.Mathlib.Omega.{arith}
 use lib.Dec.{eqb, leb, ltb}
 use borrow.Author.Tests.{eqb-true, leb-true, le-leb, eq-eqb}
+use Rattle.std.proofs.lemmas.Bool.Decides.{nat_tests}
 use Rattle.std.proofs.lemmas.Bool.{cases_lt, cases_eq}
 use Rattle.meaning.specs.Book.{type_of, range_symbol, low_of, high_of, range_condition, choices, choice_kind, mandatory_of, choice_prompt, member_count, member_of, modules_of, modules_declared}
 use Rattle.meaning.specs.Table.{a_text, content_of, value_of}
@@ -16,9 +17,9 @@ use Rattle.meaning.specs.Values.{val, leaf_of, node_values, lower_of, default_of
 use Rattle.meaning.specs.Rules.{type_fits, broken11, broken12, broken13, broken13_content, broken14, broken15, broken16, broken17, broken18, at_least, some_of, ys_of, ms_of, first_yes, other_of, first_module}
 use Rattle.meaning.specs.Valid.{At, IsLower, IsThree, IsOther, Member}
 use Rattle.demands.specs.Broken.{typed, lower, upper, default, range, one, kind, mandatory, modules, Least, Holds, Second}
-use Rattle.demands.proofs.Bools.{says_unlike, denies_unlike, Says, Denies, says_and, denies_and, denies_then, denies_it, denies_not, says_lt, denies_lt, says_le, denies_le, says_eq, denies_eq, denies_pos, denies_zero, or_assoc}
+use Rattle.demands.proofs.Bools.{says_unlike, denies_unlike, Says, Denies, says_and, denies_and, denies_then, denies_it, denies_not, says_lt, denies_lt, says_le, denies_le, says_eq, denies_pos, denies_zero, or_assoc}
 use Rattle.demands.proofs.Counts.{Some, some_counted, two-counted, count_some, count-two, first-least}
-use Rattle.demands.proofs.Contents.{value-three, says_content, says_typed, says_within}
+use Rattle.demands.proofs.Contents.{value-three, says_content, says_typed}
 use Rattle.demands.proofs.Lower.{lower_is, lower_unique}
 use Rattle.demands.proofs.Defaults.{default_is, content_is, default_unique}
 
@@ -84,20 +85,16 @@ module _ (m t : List ℕ) where
       (s r : ℕ) → Denies
       (eqb (range_symbol m r) s && broken14 (content_of t s) (val vs (range_condition m r)) (leaf_of m t (low_of m r)) (leaf_of m t (high_of m r)))
       (Holds m t (range s r))
-  each-range s r =
-      denies_then (says_eq (range_symbol m r) s)
-      (denies_then (says_lt 0 (val vs (range_condition m r))) (denies_not (says_within (leaf_of m t (low_of m r)) (leaf_of m t (high_of m r)) (content_of t s))))
+  each-range s r = grind (arith, nat_tests)
 
   -- 18
   pub each-modules : (s : ℕ) → Denies (modules_declared m && broken18 (value_of t (modules_of m)) (value_of t s)) (Holds m t (modules s))
-  each-modules s =
-      denies_and (denies_unlike (modules_of m) 65535)
-      (denies_and (denies_zero (value_of t (modules_of m))) (denies_eq (value_of t s) 1))
+  each-modules s = grind (arith, nat_tests)
 
 -- a least number by one test is the least by what the test says
 least_says : {p : ℕ → Bool} {n : ℕ} {P : ℕ → Type 0} {i : ℕ}
     → ((j : ℕ) → Says (p j) (P j)) → Least (λ j. (j < n) × (p j ≡ true)) i → Least (λ j. (j < n) × P j) i
-least_says {i = i} says h = ((h.0.0, (says i).0 h.0.1), λ k l q. h.1 k l (q.0, (says k).1 q.1))
+least_says {i = i} says h = grind (arith, nat_tests)
 
 module _ (m t : List ℕ) (c : ℕ) where
   abbrev v : ℕ → ℕ
@@ -115,8 +112,7 @@ module _ (m t : List ℕ) (c : ℕ) where
 
   -- of two that are above n one is another than i
   other_than : (i a b : ℕ) → a < b → b < n → 0 < v a → 0 < v b → i < n → v i ≡ 2 → Beside
-  other_than i a b ab bn pa pb ni y = 
-      ⊎_elim (λ z. (i, b, ni, bn, (λ f. omega arith), y, pb)) (λ ne. (i, a, ni, omega arith, ne, y, pa)) (cases_eq i a)
+  other_than i a b ab bn pa pb ni y = grind (arith, nat_tests)
 
   beside : 2 ≤ some_of m t c → 1 ≤ ys_of m t c → Beside
   unfolding some_of ys_of at_least
@@ -137,7 +133,7 @@ module _ (m t : List ℕ) (c : ℕ) where
   yes_of i li y = count_some (λ k. leb 2 (v k)) n (i, li, le-leb 2 (v i) (omega arith))
 
   says_one : Says (broken15 p (some_of m t c) (ys_of m t c)) (((0 < p) × (2 ≤ some_of m t c)) × (1 ≤ ys_of m t c))
-  says_one = says_and (says_and (says_lt 0 p) (says_le 2 (some_of m t c))) (says_le 1 (ys_of m t c))
+  says_one = grind (arith, nat_tests)
 
   module _ (lt : c < choices m) where
     -- 15

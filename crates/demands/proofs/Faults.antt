@@ -6,6 +6,7 @@ use mathlib.Core.Bool.{Bool, true, false}
 use mathlib.Core.Logic.Iff
 use mathlib.Core.Logic.{◌⊎◌, inl, inr, ◌↔◌, ⊎_elim}
 use native.Mathlib.Omega.{arith}
+use Rattle.std.proofs.lemmas.Bool.Decides.{nat_tests}
 use Rattle.std.specs.Prelude.{Ok, Err}
 use Rattle.meaning.specs.Base.{Outcome, Fault, pick, when, or_else, first_below, answer_of}
 use Rattle.meaning.proofs.First.{IsClean, IsFault, a_fault, or_else_iff, when_iff, clean_iff, first_is, fault_first}
@@ -35,16 +36,13 @@ clean_when {b} n p s d = let w = when_iff b (Fault n p s) (a_fault n p s) in (λ
 
 pub fault_when : {b : Bool} {P : Type 0} (k q r : ℕ) {n p s : ℕ} → Says b P → (when b (Fault k q r) ≡ Fault n p s) ↔ (P × (n ≡ k) × (p ≡ q) × (s ≡ r))
 unfolding when
-fault_when {b = true} k q r says = (
-  (λ e. (says.0 refl, sym (same_number e), sym (same_place e), sym (same_second e))),
-  (λ h. same_fault (sym h.1) (sym h.2) (sym h.3)),
-)
+fault_when {b = true} k q r says = grind (arith, nat_tests)
 fault_when {b = false} k q r {n = n} {p = p} {s = s} says =
     ((λ e. cc), (λ h. let z = says.1 h.0 in cc))
 
 fault_then : (a b : Outcome) (n p s : ℕ) → (or_else a b ≡ Fault n p s) ↔ ((a ≡ Fault n p s) ⊎ (IsClean a × (b ≡ Fault n p s)))
 unfolding or_else
-fault_then (Ok tt) b n p s = ((λ e. inr (refl, e)), ⊎_elim (λ e. cc) (λ h. h.1))
+fault_then (Ok tt) b n p s = grind (arith, nat_tests)
 fault_then (Err f) b n p s = (inl, ⊎_elim (λ e. e) (λ h. cc))
 
 -- it stands at place i, and the places before it are clean

@@ -7,12 +7,12 @@ use mathlib.Core.Logic.{inl, inr, ◌↔◌, ⊎_elim}
 use mathlib.Core.List.{List, [], ◌∷◌, ◌++◌}
 use native.Mathlib.Nat.{not-suc-le-zero, eq-or-lt_of_le, le_of_suc-le-suc}
 use native.Mathlib.Omega.{arith}
+use Rattle.std.proofs.lemmas.Bool.Decides.{nat_tests}
 use Rattle.std.specs.Prelude.{Ok, Err}
 use Rattle.meaning.specs.Base.{Outcome, Fault, when, or_else, first_below}
 use Rattle.meaning.proofs.First.{IsClean}
 use Rattle.demands.specs.Broken.{Spot, rule_of, place_of, in_turn, All, FirstNot, Holds, Second}
 use Rattle.demands.proofs.Bools.{Denies}
-use Rattle.demands.proofs.Faults.{same_number, same_place, same_second}
 
 module _ (P : Spot → Type 0) where
   pub all_append : (a b : List Spot) → All P (a ++ b) ↔ (All P a × All P b)
@@ -62,22 +62,13 @@ module _ (m t : List ℕ) where
     pub fault : (n p s : ℕ) → o ≡ Fault n p s → Found l n p s
 
   pub finds_kept : {x : Spot} {l : List Spot} {o : Outcome} → Holds m t x → Finds l o → Finds (x ∷ l) o
-  finds_kept h f =
-      record {
-        clean = λ e. (h, f.clean e);
-        fault = λ n p s e. let y = f.fault n p s e in (y.0, inr (h, y.1), y.2, y.3, y.4);
-      }
+  finds_kept h f = grind (arith, nat_tests)
 
   pub finds_one : (x : Spot) (s : ℕ) {b : Bool} → Denies b (Holds m t x) → (b ≡ true → Second m t x s)
       → Finds (x ∷ []) (when b (Fault (rule_of x) (place_of x) s))
   unfolding when
-  finds_one x s {b = true} d at =
-      record {
-        clean = λ e. cc;
-        fault = λ n p s' e.
-            (x, inl (refl, λ h. cc (d.1 h)), same_number e, same_place e, subst (Second m t x) (same_second e) (at refl));
-      }
-  finds_one x s {b = false} d at = record { clean = λ e. (d.0 refl, tt); fault = λ n p s' e. cc }
+  finds_one x s {b = true} d at = grind (arith, nat_tests)
+  finds_one x s {b = false} d at = grind (arith, nat_tests)
 
   pub finds_then : {l k : List Spot} (a : Outcome) {b : Outcome} → Finds l a → Finds k b → Finds (l ++ k) (or_else a b)
   unfolding or_else

@@ -8,7 +8,7 @@ use native.Mathlib.Omega.{arith}
 use lib.Dec.{eqb, leb, ltb}
 use lib.ListN.{length, drop, length-take, length-drop}
 use borrow.Author.Tests.{leb-true, ltb-true, ne_eqb}
-use Rattle.std.proofs.lemmas.Bool.{and_parts}
+use Rattle.std.proofs.lemmas.Bool.Decides.{nat_tests}
 use Rattle.meaning.specs.Base.{Clean, Fault, pick, part, or_else}
 use Rattle.meaning.specs.Book.{symbols, nodes, texts, end_of, type_of, name_start, name_offset, name_length, spelled_name, prompt_of, depend_of, new_name, name_bytes, digits_alone, name_ok, symbol_ok, book_fault, WellFormed, name_place, name_place_in}
 use Rattle.meaning.specs.Rules.{verdict_in, node_work_in, verdict, node_work}
@@ -38,12 +38,7 @@ module _ (m t : List ℕ) where
 -- THE NAME
 -- of five tests that all hold, the first three
 first_three : (a b c d e : Bool) → a && b && c && d && e ≡ true → (a ≡ true) × (b ≡ true) × (c ≡ true)
-first_three a b c d e h =
-    let four = and_parts (a && b && c && d) e h in
-    let three = and_parts (a && b && c) d four.0 in
-    let two = and_parts (a && b) c three.0 in
-    let one = and_parts a b two.0 in
-    (one.0, one.1, two.1)
+first_three a b c d e h = grind (arith, nat_tests)
 
 module _ (m : List ℕ) (s : ℕ) where
   -- a name's part, cut where the bytes end: no longer than its record says, and in them if it has a byte

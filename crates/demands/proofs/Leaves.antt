@@ -9,6 +9,7 @@ use native.Mathlib.Omega.{arith}
 use lib.Dec.{eqb, ltb}
 use lib.ListN.{length}
 use borrow.Author.Tests.{eqb-true, lt-ltb, eq-eqb, leb-true}
+use Rattle.std.proofs.lemmas.Bool.Decides.{nat_tests}
 use Rattle.std.specs.Prelude.{Ok, Err}
 use Rattle.meaning.specs.Base.{Outcome, Clean, Fault, when, or_else, first_below}
 use Rattle.meaning.specs.Book.{symbols, choices, type_of, choice_kind, choice_prompt, member_count, member_of, WellFormed}
@@ -20,7 +21,7 @@ use Rattle.meaning.specs.Picks.{In}
 use Rattle.meaning.specs.Clearance.{leaf_stands, closed_on}
 use Rattle.meaning.specs.Findings.{table_of}
 use Rattle.demands.proofs.Bools.{not_both}
-use Rattle.demands.proofs.Lifts.{each_of, in_small, Is, is_lifts}
+use Rattle.demands.proofs.Lifts.{in_small, Is, is_lifts}
 use Rattle.demands.proofs.Relate.{node}
 use Rattle.demands.proofs.Counts.{some_counted}
 use Rattle.demands.proofs.Tables.{table_clean, table_content}
@@ -31,8 +32,7 @@ use Rattle.demands.proofs.ThreeModels.{all_three, no_free, no_range, boolean_mem
 -- a value of a boolean or tristate type fits it; of a boolean it is not m
 full-fits : (y v : ℕ) → y ≤ 1 → In (full y) v → type_fits y (a_three v) ≡ true
 unfolding full has
-full-fits zero v le h =
-    each_of (λ v. In 5 v → type_fits 0 (a_three v) ≡ true) (λ _. refl) (λ h. cc) (λ _. refl) v (in_small 5 v h) h
+full-fits zero v le h = grind (arith, nat_tests)
 full-fits (suc zero) v le h = refl
 full-fits (suc (suc y)) v le h = absurd (omega arith)
 

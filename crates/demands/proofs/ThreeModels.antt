@@ -3,14 +3,14 @@
 use Prim.Native.Nat.{ℕ, ◌≤◌, ◌<◌}
 use mathlib.Core.Path.{◌≡◌, refl}
 use mathlib.Core.Bool.{Bool, true, false, ◌&&◌, ◌||◌, not}
-use mathlib.Mathlib.Data.Bool.Basic.{and_elim_left, and_elim_right}
+use mathlib.Mathlib.Data.Bool.Basic.{and_elim_left}
 use mathlib.Core.Logic.{⊎_elim}
 use mathlib.Core.List.{List}
 use native.Mathlib.Omega.{arith}
 use lib.Dec.{eqb, ltb}
 use borrow.Author.Tests.{eqb-true, ltb-true, le-leb}
 use Rattle.std.proofs.lemmas.Bool.Decides.{nat_tests}
-use Rattle.meaning.specs.Book.{symbols, nodes, ranges, choices, type_of, three_type, op_of, left_of, right_of, zero_of, is_leaf, leaf_fits, node_fits, node_ok, range_symbol, choice_kind, member_count, member_of, member_ok, WellFormed}
+use Rattle.meaning.specs.Book.{symbols, nodes, ranges, choices, type_of, three_type, op_of, left_of, right_of, is_leaf, leaf_fits, node_fits, node_ok, range_symbol, choice_kind, member_count, member_of, member_ok, WellFormed}
 use Rattle.meaning.specs.Sets.{is_free}
 use Rattle.meaning.proofs.Tests.{or_cases}
 use Rattle.demands.proofs.ValidIff.{range-on}
@@ -22,7 +22,7 @@ module _ (m : List ℕ) (wf : WellFormed m) (all : (s : ℕ) → s < symbols m �
 
   fits : (i : ℕ) → i < nodes m → node_fits m i (op_of m i) (left_of m i) (right_of m i) ≡ true
   unfolding node_ok
-  fits i lt = and_elim_right (eqb (zero_of m i) 0) _ (wf.node i lt)
+  fits i lt = grind (arith, nat_tests)
 
   not_free : (i : ℕ) → i < nodes m → is_free m i ≡ false
   unfolding is_free node_fits leaf_fits
@@ -58,7 +58,4 @@ module _ (m : List ℕ) (wf : WellFormed m) (all : (s : ℕ) → s < symbols m �
   pub boolean_member : (c j : ℕ) → c < choices m → j < member_count m c → choice_kind m c ≡ 0
       → (member_of m c j < symbols m) × (type_of m (member_of m c j) ≡ 0)
   unfolding member_ok
-  boolean_member c j lc lj kind =
-      let s = member_of m c j in
-      let ok = wf.member c j lc lj in
-      (grind (arith, nat_tests), grind (arith, nat_tests))
+  boolean_member c j lc lj kind = grind (arith, nat_tests)

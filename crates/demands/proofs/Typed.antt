@@ -2,12 +2,13 @@
 -- reads as n. Assumes nothing.
 use Prim.Native.Nat.{ℕ, zero, suc, ◌≤◌, ◌<◌}
 use mathlib.Core.Path.{◌≡◌, refl}
-use mathlib.Core.Bool.{true, false≢true}
+use mathlib.Core.Bool.{true}
 use mathlib.Core.Logic.{⊎_elim}
 use mathlib.Core.List.{List}
 use native.Mathlib.Omega.{arith}
 use lib.Dec.{leb}
-use borrow.Author.Tests.{le-ltb, leb-true, ne_eqb}
+use borrow.Author.Tests.{le-ltb}
+use Rattle.std.proofs.lemmas.Bool.Decides.{nat_tests}
 use Rattle.std.proofs.lemmas.Bool.{cases_lt}
 use Rattle.meaning.specs.Book.{symbols, type_of, three_type}
 use Rattle.meaning.specs.Table.{Content, a_three, a_text, an_int, a_hex, entries, read_of, content_of, three_in, value_of}
@@ -32,15 +33,13 @@ fits-three (suc zero) (a_three v) small fits = refl
 fits-three (suc zero) (a_text l) small fits = cc
 fits-three (suc zero) (an_int z) small fits = cc
 fits-three (suc zero) (a_hex h) small fits = cc
-fits-three (suc (suc y)) x small fits = absurd (omega (arith, leb-true (suc (suc y)) 1 small))
+fits-three (suc (suc y)) x small fits = grind (arith, nat_tests)
 
 fits-full : (y : ℕ) (x : Content) → three_in x ≤ 2 → type_fits y x ≡ true → In (full y) (three_in x)
 unfolding full has
-fits-full zero (a_three v) small fits =
-    each_of (λ v. type_fits 0 (a_three v) ≡ true → In 5 v) (λ _. refl) (λ h. cc) (λ _. refl) v (omega arith) fits
+fits-full zero (a_three v) small fits = grind (arith, nat_tests)
 fits-full (suc zero) (a_three v) small fits = each_of (In 7) refl refl refl v (omega arith)
-fits-full (suc (suc y)) (a_three v) small fits =
-    absurd (false≢true (rw (ne_eqb (suc (suc y)) 0 (λ e. omega arith), ne_eqb (suc (suc y)) 1 (λ e. omega arith)) at fits))
+fits-full (suc (suc y)) (a_three v) small fits = grind (arith, nat_tests)
 fits-full y (a_text l) small fits = full_n y
 fits-full y (an_int z) small fits = full_n y
 fits-full y (a_hex h) small fits = full_n y

@@ -2,14 +2,13 @@
 -- places at once. A range that the book's check passed is on a symbol, so its symbol is listed. Assumes nothing.
 use Prim.Native.Nat.{ℕ, ◌<◌}
 use mathlib.Core.Path.{◌≡◌, refl}
-use mathlib.Core.Bool.{true, ◌||◌, and-eq-true_iff}
-use mathlib.Mathlib.Data.Bool.Basic.{and_elim_left}
+use mathlib.Core.Bool.{true, ◌||◌}
 use mathlib.Core.Logic.Iff
 use mathlib.Core.Logic.{◌⊎◌, inl, inr, ◌↔◌, ◌≢◌, ⊎_elim}
 use mathlib.Core.List.{List, [], ◌∷◌}
 use native.Mathlib.Omega.{arith}
-use lib.Dec.{eqb, ltb}
-use borrow.Author.Tests.{ltb-true}
+use lib.Dec.{eqb}
+use Rattle.std.proofs.lemmas.Bool.Decides.{nat_tests}
 use Rattle.std.specs.Prelude.{Ok, Err}
 use Rattle.std.proofs.lemmas.Bool.{cases_lt, cases_eq}
 use Rattle.meaning.specs.Base.{Outcome, Clean}
@@ -128,9 +127,7 @@ module _ (m t : List ℕ) where
 pub range-on : (m : List ℕ) (r : ℕ) → range_ok m r ≡ true
     → (range_symbol m r < symbols m) × ((eqb (type_of m (range_symbol m r)) 3 || eqb (type_of m (range_symbol m r)) 4) ≡ true)
 unfolding range_ok
-range-on m r e =
-    let h = (and-eq-true_iff (ltb (range_symbol m r) (symbols m)) _).0 (and_elim_left _ _ (and_elim_left _ _ (and_elim_left _ _ e))) in
-    (ltb-true (range_symbol m r) (symbols m) h.0, h.1)
+range-on m r e = grind (arith, nat_tests)
 
 -- VALID, rule by rule and place by place
 pub valid_holds : (m t : List ℕ) → WellFormed m → Valid m t ↔ All (Holds m t) (listed m)
