@@ -137,7 +137,7 @@ module _ (m : List ℕ) where
 
     in_order : (c d : ℕ) → c < d → d < choices m → first_member m c + member_count m c ≤ first_member m d
     unfolding member_due
-    in_order c zero l lt = absurd (not-suc-le-zero l)
+    in_order c zero l lt = omega arith
     in_order c (suc d) l lt =
         let e = starts (suc d) lt in
         ⊎_elim (λ (q : c ≡ d). rw q (omega arith)) (λ k. omega (arith, in_order c d k (omega arith)))
@@ -247,7 +247,7 @@ module _ (m : List ℕ) where
 
   good_records : WellFormed m → GoodBelow m 7
   unfolding record_ok
-  good_records w zero i pos lt l = absurd (not-suc-le-zero pos)
+  good_records w zero i pos lt l = cc
   good_records w (suc zero) i pos lt l = w.symbol i l
   good_records w (suc (suc zero)) i pos lt l = w.node i l
   good_records w (suc (suc (suc zero))) i pos lt l = w.default i l

@@ -49,14 +49,14 @@ module _ (p : ℕ → Bool) where
   count_hit n e = rw e (omega arith)
 
   pub count_some : (n : ℕ) → Some n → 1 ≤ count_below p n
-  count_some zero x = absurd (not-suc-le-zero x.1)
+  count_some zero x = omega arith
   count_some (suc n) x =
       ⊎_elim (λ e. omega (arith, count_hit n (subst (λ k. p k ≡ true) e x.2)))
       (λ l. omega (arith, count_some n (x.0, l, x.2), count_grows n))
       (eq-or-lt_of_le (le_of_suc-le-suc x.1))
 
   pub count-two : (n : ℕ) → Two n → 2 ≤ count_below p n
-  count-two zero x = absurd (not-suc-le-zero x.3)
+  count-two zero x = omega arith
   count-two (suc n) x =
       ⊎_elim
       (λ e. omega (arith, count_hit n (subst (λ k. p k ≡ true) e x.5), count_some n (x.0, subst (λ k. x.0 < k) e x.2, x.4)))

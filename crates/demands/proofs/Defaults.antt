@@ -73,7 +73,7 @@ module _ (m t : List ℕ) {s : ℕ} where
     first-least h = grind (arith, nat_tests)
 
     silent : {d : ℕ} → FirstDefault m t s d → NoDefault m t s → ⊥
-    silent {d} h g = omega (arith, g d h.stands h.on)
+    silent {d} h g = omega arith
 
     pub default_unique : {x y : A} → IsDefault m t s has none x → IsDefault m t s has none y → x ≡ y
     default_unique (inl h) (inl g) = grind (arith, nat_tests)

@@ -69,7 +69,7 @@ module _ (m f : List ℕ) (node_room symbol_room : ℕ) where
         (Iff.trans (fault_behind _ _ n p s (head_numbers m f) (λ x. omega arith)) (Iff.and (head_search m f).clean Iff.rfl)))
 
   no_body : (n : ℕ) → 6 < n → n < 10 → ¬ OfBody n
-  no_body n l k = λ x. grind arith
+  no_body n l k = omega arith
 
   module _ (p s : ℕ) where
     pub finding_refused_21 :

@@ -2,7 +2,7 @@
 -- breaks is one whose leaf may stand there and is closed: 10, 14 and 16 cannot be broken. Assumes nothing.
 use Prim.Native.Nat.{ℕ, zero, suc, ◌≤◌, ◌<◌}
 use mathlib.Core.Path.{◌≡◌, refl, sym, ◌∙◌, ap}
-use mathlib.Core.Bool.{Bool, true, false, ◌&&◌, not, false≢true, and-eq-true_iff}
+use mathlib.Core.Bool.{Bool, true, false, ◌&&◌, not, and-eq-true_iff}
 use mathlib.Mathlib.Data.Bool.Basic.{and_elim_right}
 use mathlib.Core.List.{List}
 use native.Mathlib.Omega.{arith}
@@ -38,7 +38,7 @@ full-fits (suc (suc y)) v le h = absurd (omega arith)
 
 full_not_m : (v : ℕ) → In (full 0) v → v ≡ 1 → ⊥
 unfolding full has
-full_not_m v h e = false≢true (rw e at h)
+full_not_m v h e = cc
 
 module _ (m : List ℕ) (q : ℕ) (wf : WellFormed m) (all : (s : ℕ) → s < symbols m → type_of m s ≤ 1) (vs ys : List ℕ)
     (size : length vs ≡ symbols m) (chosen : (i : ℕ) → Is (sat ys i) (val vs i))

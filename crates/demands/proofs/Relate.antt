@@ -48,8 +48,8 @@ unfolding equal_at
 equal_small m l r x y = grind (arith, nat_tests)
 
 above_one : (x : ℕ) → (x ≡ 0 → ⊥) → (x ≡ 1 → ⊥) → 1 < x
-above_one zero p q = absurd (p refl)
-above_one (suc zero) p q = absurd (q refl)
+above_one zero p q = omega arith
+above_one (suc zero) p q = omega arith
 above_one (suc (suc x)) p q = omega arith
 
 -- an equality, == or !=
