@@ -34,7 +34,7 @@ pub entry_numbers : (t : List ℕ) (n : ℕ) → Numbers (Between 5 6) (table_fa
 entry_numbers t n =
     numbers_of (table_search t n)
     (λ k p s.
-    ⊎_elim (λ x. omega arith)
+    ⊎_elim (omega arith)
     (λ x. ⊎_elim (λ y. omega arith) (λ y. omega arith) x.1))
 
 pub node_room_numbers : (m : List ℕ) (room : ℕ) → Numbers (Between 7 7) (node_room_fault m room)
