@@ -1,18 +1,17 @@
 -- The walk goes through exactly where a tree stands whose leaves are closed; and what each closed leaf says of the values in its sets, such a
 -- tree says of all values in the sets that it began with, since a split leaves no value out. Assumes nothing.
-use Prim.Native.Nat.{ℕ, zero, suc, ◌+◌}
+use Prim.Native.Nat.{ℕ, zero, suc}
 use mathlib.Core.Path.{◌≡◌, refl, ◌∙◌, ap, subst}
-use mathlib.Core.Bool.{true, ◌&&◌}
+use mathlib.Core.Bool.{true}
 use mathlib.Core.Logic.{◌⊎◌, inl, inr, ◌↔◌, ⊎_elim}
 use mathlib.Core.List.{List}
-use lib.Dec.{eqb, leb}
-use lib.ListN.{length, get_or, set}
-use borrow.Author.Tests.{eqb-true}
+use lib.ListN.{length, set}
+use borrow.Author.Rules.{rules}
 use Rattle.std.specs.Prelude.{Option, Some, None, Ok, Err}
 use Rattle.meaning.specs.declared.Stop.TheVariants.{Malformed, Open}
 use Rattle.meaning.specs.declared.Head.{Head}
 use Rattle.meaning.specs.declared.Head.TheVariants.{Leaf, Two, Three}
-use Rattle.meaning.specs.Base.{Clean, half}
+use Rattle.meaning.specs.Base.{Clean}
 use Rattle.meaning.specs.Sets.{has, only, sat, full_sets}
 use Rattle.meaning.specs.Picks.{In, Closed}
 use Rattle.meaning.specs.Clearance.{Walked, closed_on, leaf_stands, leaf_head, split_head, head_of, on_head, walk_of}
@@ -26,7 +25,7 @@ use Rattle.demands.proofs.Picked.{path_closed_iff}
 
 in_two : (v : ℕ) → In 5 v → (0 ≡ v) ⊎ (2 ≡ v)
 unfolding has
-in_two v h = each_of (λ v. In 5 v → (0 ≡ v) ⊎ (2 ≡ v)) (λ _. inl refl) (λ h. cc) (λ _. inr refl) v (in_small 5 v h) h
+in_two v h = search rules
 
 in_three : (v : ℕ) → In 7 v → (0 ≡ v) ⊎ ((1 ≡ v) ⊎ (2 ≡ v))
 in_three v h = each_of (λ v. (0 ≡ v) ⊎ ((1 ≡ v) ⊎ (2 ≡ v))) (inl refl) (inr (inl refl)) (inr (inr refl)) v (in_small 7 v h)
@@ -41,14 +40,7 @@ module _ (m : List ℕ) (q : ℕ) (f : List ℕ) where
 
   head_ok : (ys : List ℕ) (at : ℕ) → HeadOk ys (head_of m q f ys at)
   unfolding head_of leaf_head split_head
-  head_ok ys at =
-      let s = half f (at + 1) in
-      pick-cases (HeadOk ys) (eqb (get_or f at 0) 1 && leb (at + 4) (length f))
-      (λ _. pick-cases (HeadOk ys) (leaf_stands m q (get_or f (at + 1) 0) (half f (at + 2))) (λ e. e) (λ _. tt))
-      (λ _. pick-cases (HeadOk ys) (eqb (get_or f at 0) 0 && leb (at + 3) (length f))
-      (λ _. pick-cases (HeadOk ys) (eqb (sat ys s) 5) (λ e. eqb-true _ 5 e)
-      (λ _. pick-cases (HeadOk ys) (eqb (sat ys s) 7) (λ e. eqb-true _ 7 e) (λ _. tt)))
-      (λ _. tt))
+  head_ok ys at = search rules
 
   read_ok : (ys : List ℕ) (at : ℕ) {h : Option Head} → head_of m q f ys at ≡ h → HeadOk ys h
   read_ok ys at e = subst (HeadOk ys) e (head_ok ys at)
