@@ -1,20 +1,18 @@
--- Contents compared and put in a range: each test of the rules says what Valid says, kind by kind. Assumes nothing.
+-- Contents compared, and put under a type: each test of the rules says what Valid says, kind by kind. Assumes nothing.
 use Prim.Native.Nat.{ℕ, ◌≤◌}
 use mathlib.Core.Path.{◌≡◌, refl, ap}
-use mathlib.Core.Bool.{Bool, true, false}
-use mathlib.Core.Logic.{◌⊎◌, inl, inr, ◌↔◌}
+use mathlib.Core.Bool.{true}
 use mathlib.Core.List.{List, [], ◌∷◌}
 use native.Mathlib.Omega.{arith}
-use lib.Dec.{T, eqb, ltb}
+use lib.Dec.{eqb, ltb}
 use lib.IntN.{ℤ, pos, negsuc}
-use lib.Signed.{le_z, ◌≤ℤ◌}
 use borrow.Author.Tests.{eqb-true, eq-eqb, le-leb}
 use Rattle.std.proofs.lemmas.Bool.Decides.{nat_tests}
 use Rattle.meaning.specs.declared.Value.{Value}
 use Rattle.meaning.specs.Base.{same_text}
 use Rattle.meaning.specs.Table.{Content, a_three, a_text, an_int, a_hex, entries, kind_of, read_of, content_in, content_of, three_in, value_of}
-use Rattle.meaning.specs.Rules.{is_empty, type_fits, same_int, same_content, int_is, hex_is, within}
-use Rattle.meaning.specs.Valid.{Typed, IntRange, HexRange}
+use Rattle.meaning.specs.Rules.{is_empty, type_fits, same_int, same_content}
+use Rattle.meaning.specs.Valid.{Typed}
 use Rattle.meaning.proofs.Tests.{same_text_lem}
 use Rattle.demands.proofs.Bools.{pick_both, Says, says_and, says_or, says_eq}
 
@@ -81,44 +79,8 @@ says_empty : (l : List ℕ) → Says (is_empty l) (l ≡ [])
 says_empty [] = (λ e. refl, λ e. refl)
 says_empty (x ∷ l) = grind (arith, nat_tests)
 
-not-one : (v : ℕ) → v ≤ 2 → (v ≡ 1 → ⊥) ↔ ((v ≡ 0) ⊎ (v ≡ 2))
-not-one v le = grind (arith, nat_tests)
-
 pub says_typed : (y : ℕ) (c : Content) → three_in c ≤ 2 → Says (type_fits y c) (Typed y c)
 says_typed y (a_three v) le = grind (arith, nat_tests)
 says_typed y (a_text l) le = says_or (says_eq y 2) (says_and (says_or (says_eq y 3) (says_eq y 4)) (says_empty l))
 says_typed y (an_int z) le = says_eq y 3
 says_typed y (a_hex h) le = says_eq y 4
-
--- WITHIN
-says_order : (a b : ℤ) → Says (le_z a b) (a ≤ℤ b)
-says_order a b = (λ e. record { le = rw e tt }, λ h. is_true (le_z a b) h.le)
-  where
-    is_true : (b : Bool) → T b → b ≡ true
-    is_true true x = refl
-    is_true false x = absurd x
-
-int_is_lem : (p : ℤ → Bool) (c : Content) → int_is p c ≡ true → (z : ℤ) × (c ≡ an_int z) × (p z ≡ true)
-int_is_lem p (a_three v) e = cc
-int_is_lem p (a_text l) e = cc
-int_is_lem p (an_int z) e = (z, refl, e)
-int_is_lem p (a_hex h) e = cc
-
-hex_is_lem : (p : ℕ → Bool) (c : Content) → hex_is p c ≡ true → (h : ℕ) × (c ≡ a_hex h) × (p h ≡ true)
-hex_is_lem p (a_three v) e = cc
-hex_is_lem p (a_text l) e = cc
-hex_is_lem p (an_int z) e = cc
-hex_is_lem p (a_hex h) e = (h, refl, e)
-
-within-range : (low high v : Content) → within low high v ≡ true → IntRange low high v ⊎ HexRange low high v
-within-range low high (a_three v) e = cc
-within-range low high (a_text l) e = cc
-within-range low high (an_int z) e = grind (arith, nat_tests)
-within-range low high (a_hex x) e = grind (arith, nat_tests)
-
-range-within : (low high v : Content) → IntRange low high v ⊎ HexRange low high v → within low high v ≡ true
-range-within low high v (inl h) = grind (arith, nat_tests)
-range-within low high v (inr h) = grind (arith, nat_tests)
-
-pub says_within : (low high v : Content) → Says (within low high v) (IntRange low high v ⊎ HexRange low high v)
-says_within low high v = grind (arith, nat_tests)

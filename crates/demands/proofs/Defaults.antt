@@ -13,7 +13,6 @@ use Rattle.meaning.specs.Book.{defaults, default_symbol, default_value, default_
 use Rattle.meaning.specs.Table.{a_text}
 use Rattle.meaning.specs.Values.{leaf_of, node_values, condition_value, default_step, default_from, default_of, default_content}
 use Rattle.meaning.specs.Valid.{At, FirstDefault, NoDefault, IsDefault}
-use Rattle.demands.specs.Broken.{Least}
 
 module _ {A : Type 0} (m : List ℕ) (cond : ℕ → ℕ) (has : ℕ → A) (none : A) (s : ℕ) where
   -- none of the defaults from a on, and below e, applies to s
@@ -25,15 +24,6 @@ module _ {A : Type 0} (m : List ℕ) (cond : ℕ → ℕ) (has : ℕ → A) (non
   DefaultFrom a x =
       ((d : ℕ) × (d < defaults m) × (default_symbol m d ≡ s) × (0 < cond d) × Quiet a d × (x ≡ has d))
       ⊎ (Quiet a (defaults m) × (x ≡ none))
-
-  quiet_more : (a b e : ℕ) → b ≡ suc a → (default_symbol m a ≡ s → cond a ≡ 0) → Quiet b e → Quiet a e
-  unfolding Quiet
-  quiet_more a b e q here h d le lt on = grind (arith, nat_tests)
-
-  from_more : (a b : ℕ) (x : A) → b ≡ suc a → (default_symbol m a ≡ s → cond a ≡ 0) → DefaultFrom b x → DefaultFrom a x
-  unfolding DefaultFrom
-  from_more a b x q here (inl h) = inl (h.0, h.1, h.2, h.3, quiet_more a b h.0 q here h.4, h.5)
-  from_more a b x q here (inr h) = inr (quiet_more a b (defaults m) q here h.0, h.1)
 
   from_step : (a b : ℕ) (x : A) (p q : Bool) → eqb (default_symbol m a) s ≡ p → ltb 0 (cond a) ≡ q → b ≡ suc a → a < defaults m
       → DefaultFrom b x → DefaultFrom a (pick p (pick q (has a) x) x)
@@ -67,10 +57,6 @@ module _ (m t : List ℕ) {s : ℕ} where
               h.5,
             )
         by (inr h) = inr ((λ d lt on. h.0 d (omega arith) lt on), h.1)
-
-    first-least : {d : ℕ} → FirstDefault m t s d → Least (Applies m t s) d
-    unfolding Applies
-    first-least h = grind (arith, nat_tests)
 
     silent : {d : ℕ} → FirstDefault m t s d → NoDefault m t s → ⊥
     silent {d} h g = omega arith

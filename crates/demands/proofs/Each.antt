@@ -124,7 +124,7 @@ module _ (m t : List ℕ) (c : ℕ) where
 
   two_of : (i j : ℕ) → i < n → j < n → i ≢ j → 0 < v i → 0 < v j → 2 ≤ some_of m t c
   unfolding some_of at_least
-  two_of i j li lj ne pi pj = 
+  two_of i j li lj ne pi pj =
       ⊎_elim (λ l. count-two (λ k. leb 1 (v k)) n (i, j, l, lj, le-leb 1 (v i) pi, le-leb 1 (v j) pj))
       (λ l. count-two (λ k. leb 1 (v k)) n (j, i, omega arith, li, le-leb 1 (v j) pj, le-leb 1 (v i) pi)) (cases_lt i j)
 
@@ -179,7 +179,7 @@ module _ (m t : List ℕ) (c : ℕ) where
   says_other y j = says_and (says_lt 0 (v j)) (says_unlike j y)
 
   some_other : (y : ℕ) → Beside → Some (λ j. ltb 0 (v j) && not (eqb j y)) n
-  some_other y b = 
+  some_other y b =
       ⊎_elim (λ z. (b.0, b.2, (says_other y b.0).1 (omega arith, λ f. b.4 (f ∙ sym z)))) (λ ne. (b.1, b.3, (says_other y b.1).1 (b.6, ne)))
       (cases_eq b.1 y)
 

@@ -33,10 +33,6 @@ and_imp : (c : Bool) {a b : Bool} → (a ≡ true → b ≡ true) → (c && a) �
 and_imp true f h = f h
 and_imp false f h = h
 
-and_both : (a a' b b' : Bool) → (a ≡ true → a' ≡ true) → (b ≡ true → b' ≡ true) → (a && b) ≡ true → (a' && b') ≡ true
-and_both true a' b b' f g h = rw (f refl) (g h)
-and_both false a' b b' f g h = cc
-
 -- 15 stays broken where more members are above n, 17 where fewer are
 up15 : (p a b a' b' : ℕ) → a ≤ a' → b ≤ b' → broken15 p a b ≡ true → broken15 p a' b' ≡ true
 up15 p a b a' b' la lb h = grind (arith, nat_tests)
