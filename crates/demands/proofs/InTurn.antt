@@ -2,15 +2,15 @@
 -- that is left, and its names lie in its texts. Assumes nothing.
 use Prim.Native.Nat.{ℕ, ◌+◌, ◌*◌, ◌≤◌, ◌<◌}
 use mathlib.Core.Path.{◌≡◌, refl}
-use mathlib.Core.Bool.{Bool, true, false, ◌&&◌, not}
+use mathlib.Core.Bool.{Bool, true, false}
 use mathlib.Core.List.{List}
 use native.Mathlib.Omega.{arith}
-use lib.Dec.{eqb, leb, ltb}
+use lib.Dec.{eqb, ltb}
 use lib.ListN.{length, drop, length-take, length-drop}
-use borrow.Author.Tests.{leb-true, ltb-true, ne_eqb}
+use borrow.Author.Tests.{ltb-true, ne_eqb}
 use Rattle.std.proofs.lemmas.Bool.Decides.{nat_tests}
 use Rattle.meaning.specs.Base.{Clean, Fault, pick, part, or_else}
-use Rattle.meaning.specs.Book.{symbols, nodes, texts, end_of, type_of, name_start, name_offset, name_length, spelled_name, prompt_of, depend_of, new_name, name_bytes, digits_alone, name_ok, symbol_ok, book_fault, WellFormed, name_place, name_place_in}
+use Rattle.meaning.specs.Book.{symbols, texts, end_of, name_start, name_offset, name_length, spelled_name, name_ok, symbol_ok, book_fault, WellFormed, name_place, name_place_in}
 use Rattle.meaning.specs.Rules.{verdict_in, node_work_in, verdict, node_work}
 use Rattle.demands.proofs.Bools.{pick-cases, denies_zero}
 use Rattle.demands.proofs.Refusals.{book_iff}
@@ -36,10 +36,6 @@ module _ (m t : List ℕ) where
     work_of_bad_book w = rw fault
 
 -- THE NAME
--- of five tests that all hold, the first three
-first_three : (a b c d e : Bool) → a && b && c && d && e ≡ true → (a ≡ true) × (b ≡ true) × (c ≡ true)
-first_three a b c d e h = grind (arith, nat_tests)
-
 module _ (m : List ℕ) (s : ℕ) where
   -- a name's part, cut where the bytes end: no longer than its record says, and in them if it has a byte
   long : length (spelled_name m s) ≤ name_length m s
@@ -83,13 +79,11 @@ module _ (m : List ℕ) (s : ℕ) where
   fits : WellFormed m → s < symbols m → (length (spelled_name m s) ≡ name_length m s) × (0 < name_length m s)
   unfolding symbol_ok name_ok end_of part
   fits w lt =
-      let named = (first_three (leb (type_of m s) 4) (name_ok m s) (new_name m s) (ltb (prompt_of m s) (nodes m)) (ltb (depend_of m s) (nodes m)) (w.symbol s lt)).1 in
+      let ok = w.symbol s lt in
       let n = name_length m s in
-      let inside =
-      first_three (leb 1 n) (leb n 64) (leb (name_offset m s + n) (texts m)) (name_bytes m (name_start m s) n) (not (digits_alone m (name_start m s) n)) named in
-      let some = leb-true 1 n inside.0 in
-      let ends = leb-true (name_offset m s + n) (texts m) inside.2 in
-      (omega (arith, length-take n (drop (name_start m s) m), length-drop (name_start m s) m), omega arith)
+      let some : 0 < n = grind (arith, nat_tests) in
+      let ends : name_offset m s + n ≤ texts m = grind (arith, nat_tests) in
+      (omega (arith, length-take n (drop (name_start m s) m), length-drop (name_start m s) m), some)
 
   pub name_in_turn : WellFormed m → name_place m s ≡ name_place_in m s
   unfolding name_place name_place_in

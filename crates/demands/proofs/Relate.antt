@@ -8,7 +8,7 @@ use mathlib.Core.List.{List, [], ◌∷◌, ◌++◌}
 use native.Mathlib.Omega.{arith}
 use lib.Dec.{eqb, leb}
 use lib.ListN.{set}
-use borrow.Author.Tests.{eqb-true, eqb-false, lt-leb, not-false}
+use borrow.Author.Tests.{eqb-true, lt-leb, not-false}
 use Rattle.std.proofs.lemmas.Bool.Decides.{nat_tests}
 use Rattle.tri.specs.Three.{tri_of, not_of, and_of, or_of}
 use Rattle.meaning.specs.Base.{pick, build}
@@ -47,11 +47,6 @@ equal_small : (m : List ℕ) (l r x y : ℕ) → equal_at m l r x y < 3
 unfolding equal_at
 equal_small m l r x y = grind (arith, nat_tests)
 
-above_one : (x : ℕ) → (x ≡ 0 → ⊥) → (x ≡ 1 → ⊥) → 1 < x
-above_one zero p q = omega arith
-above_one (suc zero) p q = omega arith
-above_one (suc (suc x)) p q = omega arith
-
 -- an equality, == or !=
 abbrev pub IsEquality : List ℕ → ℕ → Type 0
 IsEquality m i = (op_of m i ≡ 8) ⊎ (op_of m i ≡ 9)
@@ -87,7 +82,7 @@ module _ (R : ℕ → ℕ → Type 0) (L : Lifts R) (m ys t : List ℕ)
           let one = eqb-true (op_of m i) 1 q in
           rw (one, fit (left_of m i) (not-false (three_type m (left_of m i)) (rw one at e)))
       by false false p q =
-          let above : 1 < op_of m i = above_one (op_of m i) (eqb-false _ 0 p) (eqb-false _ 1 q) in
+          let above : 1 < op_of m i = grind (arith, nat_tests) in
           rw (p, q, lt-leb (op_of m i) 1 above)
 
   module _ (i : ℕ) (lt : i < nodes m) (is : IsEquality m i) where
