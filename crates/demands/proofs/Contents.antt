@@ -1,7 +1,8 @@
--- Contents compared, and put under a type: each test of the rules says what Valid says, kind by kind. Assumes nothing.
+-- Contents compared and put in a range: each test of the rules says what Valid says, kind by kind. Assumes nothing.
 use Prim.Native.Nat.{ℕ, ◌≤◌}
 use mathlib.Core.Path.{◌≡◌, refl, ap}
 use mathlib.Core.Bool.{true}
+use mathlib.Core.Logic.{◌⊎◌}
 use mathlib.Core.List.{List, [], ◌∷◌}
 use native.Mathlib.Omega.{arith}
 use lib.Dec.{eqb, ltb}
@@ -11,8 +12,8 @@ use Rattle.std.proofs.lemmas.Bool.Decides.{nat_tests}
 use Rattle.meaning.specs.declared.Value.{Value}
 use Rattle.meaning.specs.Base.{same_text}
 use Rattle.meaning.specs.Table.{Content, a_three, a_text, an_int, a_hex, entries, kind_of, read_of, content_in, content_of, three_in, value_of}
-use Rattle.meaning.specs.Rules.{is_empty, type_fits, same_int, same_content}
-use Rattle.meaning.specs.Valid.{Typed}
+use Rattle.meaning.specs.Rules.{is_empty, type_fits, same_int, same_content, within}
+use Rattle.meaning.specs.Valid.{Typed, IntRange, HexRange}
 use Rattle.meaning.proofs.Tests.{same_text_lem}
 use Rattle.demands.proofs.Bools.{pick_both, Says, says_and, says_or, says_eq}
 
@@ -84,3 +85,7 @@ says_typed y (a_three v) le = grind (arith, nat_tests)
 says_typed y (a_text l) le = says_or (says_eq y 2) (says_and (says_or (says_eq y 3) (says_eq y 4)) (says_empty l))
 says_typed y (an_int z) le = says_eq y 3
 says_typed y (a_hex h) le = says_eq y 4
+
+-- WITHIN
+pub says_within : (low high v : Content) → Says (within low high v) (IntRange low high v ⊎ HexRange low high v)
+says_within low high v = grind (arith, nat_tests)

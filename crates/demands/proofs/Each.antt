@@ -19,7 +19,7 @@ use Rattle.meaning.specs.Valid.{At, IsLower, IsThree, IsOther, Member}
 use Rattle.demands.specs.Broken.{typed, lower, upper, default, range, one, kind, mandatory, modules, Least, Holds, Second}
 use Rattle.demands.proofs.Bools.{says_unlike, denies_unlike, Says, Denies, says_and, denies_and, denies_then, denies_it, denies_not, says_lt, denies_lt, says_le, denies_le, says_eq, denies_pos, denies_zero, or_assoc}
 use Rattle.demands.proofs.Counts.{Some, some_counted, two-counted, count_some, count-two, first-least}
-use Rattle.demands.proofs.Contents.{value-three, says_content, says_typed}
+use Rattle.demands.proofs.Contents.{value-three, says_content, says_typed, says_within}
 use Rattle.demands.proofs.Lower.{lower_is, lower_unique}
 use Rattle.demands.proofs.Defaults.{default_is, content_is, default_unique}
 
@@ -85,7 +85,9 @@ module _ (m t : List ℕ) where
       (s r : ℕ) → Denies
       (eqb (range_symbol m r) s && broken14 (content_of t s) (val vs (range_condition m r)) (leaf_of m t (low_of m r)) (leaf_of m t (high_of m r)))
       (Holds m t (range s r))
-  each-range s r = grind (arith, nat_tests)
+  each-range s r =
+      denies_then (says_eq (range_symbol m r) s)
+      (denies_then (says_lt 0 (val vs (range_condition m r))) (denies_not (says_within (leaf_of m t (low_of m r)) (leaf_of m t (high_of m r)) (content_of t s))))
 
   -- 18
   pub each-modules : (s : ℕ) → Denies (modules_declared m && broken18 (value_of t (modules_of m)) (value_of t s)) (Holds m t (modules s))
