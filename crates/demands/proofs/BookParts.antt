@@ -1,24 +1,23 @@
 -- The book's search, part by part: each part is clean where the book is well-formed there, and gives the fault that document 01 names. Sections
 -- and records are numbered as the document does, and members count by their index, since well-formed choices take them in order. Assumes nothing.
 use Prim.Native.Nat.{ℕ, zero, suc, ◌+◌, ◌≤◌, ◌<◌}
-use mathlib.Core.Path.{◌≡◌, refl, sym, ◌∙◌, ap, subst}
-use mathlib.Core.Bool.{true, false, ◌&&◌, true≢false}
-use mathlib.Mathlib.Data.Bool.Basic.{and_elim_left, and_elim_right, eq-true_of_not-eq-false}
+use mathlib.Core.Path.{◌≡◌, refl, ap, subst}
+use mathlib.Core.Bool.{true, false}
+use mathlib.Mathlib.Data.Bool.Basic.{eq-true_of_not-eq-false}
 use mathlib.Core.Logic.Iff
 use mathlib.Core.Logic.{◌⊎◌, inl, inr, ◌↔◌, ◌≢◌, ⊎_elim}
 use mathlib.Core.List.{List}
 use native.Mathlib.Nat.{not-suc-le-zero, eq-or-lt_of_le, le_of_suc-le-suc}
 use native.Mathlib.Numerals.{add-one}
 use native.Mathlib.Omega.{arith}
-use lib.Dec.{eqb, leb, ltb}
 use lib.ListN.{length}
-use borrow.Author.Tests.{eqb-true}
+use Rattle.std.proofs.lemmas.Bool.Decides.{nat_tests}
+use Rattle.std.proofs.lemmas.Bool.{cases_order}
 use Rattle.meaning.specs.Base.{first_below}
-use Rattle.meaning.specs.Book.{total, start, count, end_of, due, symbols, nodes, choices, members, type_of, choice_kind, mandatory_of, choice_prompt, first_member, member_count, modules_of, member_due, choice_ok, member_ok, length_fault, chain_at, end_fault, chain_fault, record_ok, record_at, section_fault, unused_fault, member_at, choice_members_fault, members_fault, section_after, records_fault, modules_fault, book_fault, WellFormed}
+use Rattle.meaning.specs.Book.{total, start, count, end_of, due, symbols, choices, members, type_of, first_member, member_count, modules_of, member_due, choice_ok, member_ok, length_fault, chain_at, end_fault, chain_fault, record_ok, record_at, section_fault, unused_fault, member_at, choice_members_fault, members_fault, section_after, records_fault, modules_fault, book_fault, WellFormed}
 use Rattle.demands.specs.Broken.{Least}
 use Rattle.demands.specs.Refused.{BadLength, Sized, BadSection, Chained, BadIn, GoodBelow, BadMember, BadRecord, Recorded, BadModules}
 use Rattle.demands.proofs.Bools.{says_unlike, denies_unlike, says_and, says_or, says_not, denies_and, denies_or, denies_not, denies_it, says_lt, denies_lt, says_eq}
-use Rattle.demands.proofs.Counts.{order}
 use Rattle.demands.proofs.Faults.{Search, search_when, search_then, search_turn, search_each}
 
 -- counted from 1 instead of 0
@@ -27,19 +26,19 @@ shift_least P n p = (there p, back p)
   where
     there : (p : ℕ) → ((i : ℕ) × Least (λ j. (j < n) × P (j + 1)) i × (p ≡ i + 1)) → Least (λ k. (0 < k) × ((k ≤ n) × P k)) p
     there p x = (
-      (omega (arith, x.2), (omega (arith, x.2, x.1.0.0), rw x.2 x.1.0.1)),
+      (omega arith, (omega arith, rw x.2 x.1.0.1)),
       (λ k l y. below k l y),
     )
       where
         below : (k : ℕ) → k < p → ¬ ((0 < k) × ((k ≤ n) × P k))
         below zero l y = not-suc-le-zero y.0
-        below (suc k) l y = x.1.1 k (omega (arith, x.2)) (y.1.0, rw add-one y.1.1)
+        below (suc k) l y = x.1.1 k (omega arith) (y.1.0, rw add-one y.1.1)
 
     back : (p : ℕ) → Least (λ k. (0 < k) × ((k ≤ n) × P k)) p → (i : ℕ) × Least (λ j. (j < n) × P (j + 1)) i × (p ≡ i + 1)
     back zero h = absurd (not-suc-le-zero h.0.0)
     back (suc i) h = (
       i,
-      ((h.0.1.0, rw add-one h.0.1.1), λ j l y. h.1 (j + 1) (omega arith) (omega arith, (omega (arith, y.0), y.1))),
+      ((h.0.1.0, rw add-one h.0.1.1), λ j l y. h.1 (j + 1) (omega arith) (omega arith, (omega arith, y.1))),
       omega arith,
     )
 
@@ -107,7 +106,7 @@ module _ (m : List ℕ) where
       there : (n p s : ℕ) → Raw n p s → FirstRecord p s × (n ≡ 3)
       there n p s x =
           let y = x.2 in (
-            (omega (arith, y.3), omega (arith, y.3, x.1), rw y.3 ((good_shift x.0).0 x.3), rw (y.3, y.4) y.1),
+            (omega arith, omega arith, rw y.3 ((good_shift x.0).0 x.3), rw (y.3, y.4) y.1),
             y.2,
           )
 
@@ -134,15 +133,11 @@ module _ (m : List ℕ) where
     unfolding record_ok choice_ok
     starts c lt =
         let ok : choice_ok m c ≡ true = good 6 c (omega arith) (omega arith) lt in
-        let kind = leb (choice_kind m c) 1 in
-        let must = leb (mandatory_of m c) 1 in
-        let prompt = ltb (choice_prompt m c) (nodes m) in
-        let first = eqb (first_member m c) (member_due m c) in
-        eqb-true (first_member m c) (member_due m c) (and_elim_right (kind && must && prompt) _ (and_elim_left (kind && must && prompt && first) _ ok))
+        grind (arith, nat_tests)
 
     in_order : (c d : ℕ) → c < d → d < choices m → first_member m c + member_count m c ≤ first_member m d
     unfolding member_due
-    in_order c zero l lt = absurd (not-suc-le-zero l)
+    in_order c zero l lt = omega arith
     in_order c (suc d) l lt =
         let e = starts (suc d) lt in
         ⊎_elim (λ (q : c ≡ d). rw q (omega arith)) (λ k. omega (arith, in_order c d k (omega arith)))
@@ -173,13 +168,12 @@ module _ (m : List ℕ) where
             let d = b.0 in
             let i = b.1 in
             let bad : member_ok m d (first_member m d + i) ≡ false = rw b.4 at b.5 in
-            ⊎_elim (λ less. true≢false (sym (before d less i b.3) ∙ bad))
-            (⊎_elim
+            ⊎_elim
             (λ (same : d ≡ c).
-            least.1 i (omega (arith, b.4, ap (first_member m) same))
+            least.1 i (omega (arith, ap (first_member m) same))
             (subst (λ q. (i < member_count m q) × (member_ok m q (first_member m q + i) ≡ false)) same (b.3, bad)))
-            (λ more. omega (arith, b.4, in_order c d more b.2, least.0.0)))
-            (order d c)
+            (⊎_elim (λ less. cc (before d less i b.3)) (λ more. omega (arith, in_order c d more b.2)))
+            (cases_order d c)
 
     back : (n p s : ℕ) → (p ≡ 7) × Least (BadMember m) s × (n ≡ 3) → Raw n p s
     unfolding Raw
@@ -191,14 +185,14 @@ module _ (m : List ℕ) where
           b.2,
           (
             j,
-            ((b.3, rw b.4 at b.5), λ i l y. h.1.1 (first_member m c + i) (omega (arith, b.4)) (c, i, b.2, y.0, refl, y.1)),
+            ((b.3, rw b.4 at b.5), λ i l y. h.1.1 (first_member m c + i) (omega arith) (c, i, b.2, y.0, refl, y.1)),
             h.2,
             h.0,
             b.4,
           ),
           (λ d l i li.
               eq-true_of_not-eq-false
-              (λ bad. h.1.1 (first_member m d + i) (omega (arith, in_order d c l b.2, li, b.4)) (d, i, omega (arith, l, b.2), li, refl, bad))),
+              (λ bad. h.1.1 (first_member m d + i) (omega (arith, in_order d c l b.2)) (d, i, omega arith, li, refl, bad))),
         )
 
   records_search : Search (records_fault m) (Recorded m) (λ n p s. BadRecord m p s × (n ≡ 3))
@@ -253,7 +247,7 @@ module _ (m : List ℕ) where
 
   good_records : WellFormed m → GoodBelow m 7
   unfolding record_ok
-  good_records w zero i pos lt l = absurd (not-suc-le-zero pos)
+  good_records w zero i pos lt l = cc
   good_records w (suc zero) i pos lt l = w.symbol i l
   good_records w (suc (suc zero)) i pos lt l = w.node i l
   good_records w (suc (suc (suc zero))) i pos lt l = w.default i l
@@ -305,9 +299,4 @@ pub book_cases :
     → (Sized m × Chained m × BadRecord m p s → n ≡ 3 → R)
     → (Sized m × Chained m × Recorded m × BadModules m × (p ≡ modules_of m) × (s ≡ 65535) → n ≡ 4 → R)
     → BadBook m n p s → R
-book_cases m n p s a b c d =
-    ⊎_elim (λ x. a (x.0, x.2, x.3) x.1)
-    (λ x.
-    ⊎_elim (λ y. b (x.0, y.0, y.2) y.1)
-    (λ y. ⊎_elim (λ z. c (x.0, y.0, z.0) z.1) (λ z. d (x.0, y.0, z.0, z.1.0, z.1.2, z.1.3) z.1.1) y.1)
-    x.1)
+book_cases m n p s a b c d = grind (arith, nat_tests)

@@ -1,12 +1,14 @@
 -- A test says what it tests: each connective and comparison, as an equivalence that goes case by case, and what it picks. Assumes nothing.
 use Prim.Native.Nat.{ℕ, ◌≤◌, ◌<◌}
-use mathlib.Core.Path.{◌≡◌, refl, sym, ◌∙◌}
-use mathlib.Core.Bool.{Bool, true, false, ◌&&◌, ◌||◌, not, true≢false, false≢true}
+use mathlib.Core.Path.{◌≡◌, refl}
+use mathlib.Core.Bool.{Bool, true, false, ◌&&◌, ◌||◌, not}
 use mathlib.Core.Logic.Iff
 use mathlib.Core.Logic.{◌⊎◌, inl, inr, ◌↔◌, ⊎_elim}
 use native.Mathlib.Omega.{arith}
 use lib.Dec.{eqb, leb, ltb}
-use borrow.Author.Tests.{ltb-true, ltb-false, leb-true, leb-false, eqb-true, eqb-false, lt-ltb, le-ltb, le-leb, lt-leb, eq-eqb, ne_eqb, not-true, not-false}
+use borrow.Author.Tests.{ltb-true, ltb-false, leb-true, leb-false, eqb-true, eqb-false, lt-ltb, le-ltb, le-leb, lt-leb, eq-eqb, ne_eqb}
+use Rattle.std.proofs.lemmas.Bool.Decides.{nat_tests}
+use Rattle.std.proofs.lemmas.Bool.Decides.{Decides-and, Decides-or}
 use Rattle.meaning.specs.Base.{pick}
 
 -- P is what a true test says; what a false one says
@@ -17,7 +19,7 @@ abbrev pub Denies : Bool → Type 0 → Type 0
 Denies b P = (b ≡ false) ↔ P
 
 pub not_both : {A : Type 0} {b : Bool} → b ≡ false → b ≡ true → A
-not_both f t = absurd (false≢true (sym f ∙ t))
+not_both f t = cc
 
 -- what is picked by a test
 pub pick-cases : {A : Type 0} (P : A → Type 0) (c : Bool) {a b : A} → (c ≡ true → P a) → (c ≡ false → P b) → P (pick c a b)
@@ -35,42 +37,34 @@ pick_rel P false p q = q refl
 
 module _ {P Q : Type 0} where
   pub says_and : {a b : Bool} → Says a P → Says b Q → Says (a && b) (P × Q)
-  says_and {a = true} h k = (λ e. (h.0 refl, k.0 e), λ x. k.1 x.1)
-  says_and {a = false} h k = (λ e. absurd (false≢true e), λ x. h.1 x.0)
+  says_and {a} {b} = Decides-and a b
 
   pub says_or : {a b : Bool} → Says a P → Says b Q → Says (a || b) (P ⊎ Q)
-  says_or {a = true} h k = (λ e. inl (h.0 refl), λ x. refl)
-  says_or {a = false} h k = (λ e. inr (k.0 e), ⊎_elim (λ p. absurd (false≢true (h.1 p))) k.1)
+  says_or {a} {b} = Decides-or a b
 
   pub denies_and : {a b : Bool} → Denies a P → Denies b Q → Denies (a && b) (P ⊎ Q)
-  denies_and {a = true} h k = (λ e. inr (k.0 e), ⊎_elim (λ p. absurd (true≢false (h.1 p))) k.1)
+  denies_and {a = true} h k = (λ e. inr (k.0 e), ⊎_elim (λ p. cc (h.1 p)) k.1)
   denies_and {a = false} h k = (λ e. inl (h.0 refl), λ x. refl)
 
   pub denies_or : {a b : Bool} → Denies a P → Denies b Q → Denies (a || b) (P × Q)
-  denies_or {a = true} h k = (λ e. absurd (true≢false e), λ x. h.1 x.0)
+  denies_or {a = true} h k = (λ e. cc, λ x. h.1 x.0)
   denies_or {a = false} h k = (λ e. (h.0 refl, k.0 e), λ x. k.1 x.1)
 
   -- a test behind another: only where the first says so
   pub denies_then : {a b : Bool} → Says a P → Denies b Q → Denies (a && b) (P → Q)
   denies_then {a = true} h k = (λ e p. k.0 e, λ f. k.1 (f (h.0 refl)))
-  denies_then {a = false} h k = (λ e p. absurd (false≢true (h.1 p)), λ f. refl)
+  denies_then {a = false} h k = (λ e p. cc (h.1 p), λ f. refl)
 
 module _ {P : Type 0} where
   pub denies_it : {b : Bool} → Says b P → Denies b (¬ P)
-  denies_it {b = true} h = (λ e. absurd (true≢false e), λ n. absurd (n (h.0 refl)))
-  denies_it {b = false} h = (λ e p. false≢true (h.1 p), λ n. refl)
+  denies_it {b = true} h = (λ e. cc, λ n. absurd (n (h.0 refl)))
+  denies_it {b = false} h = (λ e p. cc (h.1 p), λ n. refl)
 
   pub says_not : {b : Bool} → Denies b P → Says (not b) P
-  says_not {b} h = (λ e. h.0 (not-true b e), λ p. flip (h.1 p))
-    where
-      flip : {b : Bool} → b ≡ false → not b ≡ true
-      flip e = rw e
+  says_not {b} h = grind (arith, nat_tests)
 
   pub denies_not : {b : Bool} → Says b P → Denies (not b) P
-  denies_not {b} h = (λ e. h.0 (not-false b e), λ p. flip (h.1 p))
-    where
-      flip : {b : Bool} → b ≡ true → not b ≡ false
-      flip e = rw e
+  denies_not {b} h = grind (arith, nat_tests)
 
 module _ (a b : ℕ) where
   pub says_lt : Says (ltb a b) (a < b)
@@ -102,13 +96,10 @@ pub denies_pos : (a : ℕ) → Denies (ltb 0 a) (a ≡ 0)
 denies_pos a = (λ e. omega (arith, ltb-false 0 a e), λ z. rw z)
 
 pub denies_zero : (a : ℕ) → Denies (eqb a 0) (0 < a)
-denies_zero a = (λ e. let n = eqb-false a 0 e in omega arith, λ l. ne_eqb a 0 (λ z. omega arith))
+denies_zero a = grind (arith, nat_tests)
 
 pub or_assoc : {P Q R : Type 0} → ((P ⊎ Q) ⊎ R) ↔ (P ⊎ (Q ⊎ R))
-or_assoc = (⊎_elim (⊎_elim inl (λ q. inr (inl q))) (λ r. inr (inr r)), ⊎_elim (λ p. inl (inl p)) (⊎_elim (λ q. inl (inr q)) inr))
+or_assoc = grind (arith, nat_tests)
 
 pub or_four : {P Q R S : Type 0} → (((P ⊎ Q) ⊎ R) ⊎ S) ↔ (P ⊎ (Q ⊎ (R ⊎ S)))
 or_four = Iff.trans or_assoc or_assoc
-
-pub none_of : {P Q R : Type 0} → ¬ P → ¬ Q → ¬ R → ¬ (P ⊎ (Q ⊎ R))
-none_of p q r = ⊎_elim p (⊎_elim q r)

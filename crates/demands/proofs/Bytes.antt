@@ -24,7 +24,7 @@ module _ (f : List ℕ) where
   at_skip at xs l h =
       record {
         front = sym (drop-drop (length xs) at f) ∙ ap (drop (length xs)) h.front ∙ drop-append_seam xs l;
-        ends = omega (arith, length-append xs l, h.ends);
+        ends = omega (arith, length-append xs l);
       }
 
   pub at_assoc : (at : ℕ) (xs ys l : List ℕ) → At f at ((xs ++ ys) ++ l) → At f at (xs ++ (ys ++ l))

@@ -1,23 +1,21 @@
 -- Contents compared and put in a range: each test of the rules says what Valid says, kind by kind. Assumes nothing.
 use Prim.Native.Nat.{ℕ, ◌≤◌}
 use mathlib.Core.Path.{◌≡◌, refl, ap}
-use mathlib.Core.Bool.{Bool, true, false, false≢true, and-eq-true_iff}
-use mathlib.Core.Logic.Iff
-use mathlib.Core.Logic.{◌⊎◌, inl, inr, ◌↔◌, ⊎_elim}
+use mathlib.Core.Bool.{true}
+use mathlib.Core.Logic.{◌⊎◌}
 use mathlib.Core.List.{List, [], ◌∷◌}
 use native.Mathlib.Omega.{arith}
-use lib.Dec.{T, eqb, leb, ltb}
+use lib.Dec.{eqb, ltb}
 use lib.IntN.{ℤ, pos, negsuc}
-use lib.Signed.{le_z, ◌≤ℤ◌}
-use lib.ListN.{length}
-use borrow.Author.Tests.{eqb-true, eqb-false, eq-eqb, leb-true, le-leb}
+use borrow.Author.Tests.{eqb-true, eq-eqb, le-leb}
+use Rattle.std.proofs.lemmas.Bool.Decides.{nat_tests}
 use Rattle.meaning.specs.declared.Value.{Value}
 use Rattle.meaning.specs.Base.{same_text}
 use Rattle.meaning.specs.Table.{Content, a_three, a_text, an_int, a_hex, entries, kind_of, read_of, content_in, content_of, three_in, value_of}
-use Rattle.meaning.specs.Rules.{is_empty, type_fits, same_int, same_content, int_is, hex_is, within}
+use Rattle.meaning.specs.Rules.{is_empty, type_fits, same_int, same_content, within}
 use Rattle.meaning.specs.Valid.{Typed, IntRange, HexRange}
 use Rattle.meaning.proofs.Tests.{same_text_lem}
-use Rattle.demands.proofs.Bools.{pick_both, says_unlike, Says, says_and, says_or, says_eq}
+use Rattle.demands.proofs.Bools.{pick_both, Says, says_and, says_or, says_eq}
 
 -- THE THREE VALUES: what is read as one is at most y
 pub value-three : (t : List ℕ) (s : ℕ) → value_of t s ≤ 2
@@ -45,10 +43,10 @@ int_same (pos n) = rw (le-leb n n (omega arith))
 int_same (negsuc n) = rw (le-leb n n (omega arith))
 
 same_int_lem : (a b : ℤ) → same_int a b ≡ true → a ≡ b
-same_int_lem (pos a) (pos b) e = let h = (and-eq-true_iff (leb a b) _).0 e in ap pos (omega (arith, leb-true a b h.0, leb-true b a h.1))
-same_int_lem (pos a) (negsuc b) e = absurd (false≢true e)
-same_int_lem (negsuc a) (pos b) e = absurd (false≢true e)
-same_int_lem (negsuc a) (negsuc b) e = let h = (and-eq-true_iff (leb b a) _).0 e in ap negsuc (omega (arith, leb-true b a h.0, leb-true a b h.1))
+same_int_lem (pos a) (pos b) e = grind (arith, nat_tests)
+same_int_lem (pos a) (negsuc b) e = cc
+same_int_lem (negsuc a) (pos b) e = cc
+same_int_lem (negsuc a) (negsuc b) e = grind (arith, nat_tests)
 
 content_same : (v : Content) → same_content v v ≡ true
 content_same (a_three v) = eq-eqb v v refl
@@ -58,20 +56,20 @@ content_same (a_hex h) = eq-eqb h h refl
 
 same_content_lem : (v w : Content) → same_content v w ≡ true → v ≡ w
 same_content_lem (a_three v) (a_three w) e = ap a_three (eqb-true v w e)
-same_content_lem (a_three v) (a_text k) e = absurd (false≢true e)
-same_content_lem (a_three v) (an_int b) e = absurd (false≢true e)
-same_content_lem (a_three v) (a_hex h) e = absurd (false≢true e)
-same_content_lem (a_text l) (a_three w) e = absurd (false≢true e)
+same_content_lem (a_three v) (a_text k) e = cc
+same_content_lem (a_three v) (an_int b) e = cc
+same_content_lem (a_three v) (a_hex h) e = cc
+same_content_lem (a_text l) (a_three w) e = cc
 same_content_lem (a_text l) (a_text k) e = ap a_text (same_text_lem l k e)
-same_content_lem (a_text l) (an_int b) e = absurd (false≢true e)
-same_content_lem (a_text l) (a_hex h) e = absurd (false≢true e)
-same_content_lem (an_int a) (a_three w) e = absurd (false≢true e)
-same_content_lem (an_int a) (a_text k) e = absurd (false≢true e)
+same_content_lem (a_text l) (an_int b) e = cc
+same_content_lem (a_text l) (a_hex h) e = cc
+same_content_lem (an_int a) (a_three w) e = cc
+same_content_lem (an_int a) (a_text k) e = cc
 same_content_lem (an_int a) (an_int b) e = ap an_int (same_int_lem a b e)
-same_content_lem (an_int a) (a_hex h) e = absurd (false≢true e)
-same_content_lem (a_hex g) (a_three w) e = absurd (false≢true e)
-same_content_lem (a_hex g) (a_text k) e = absurd (false≢true e)
-same_content_lem (a_hex g) (an_int b) e = absurd (false≢true e)
+same_content_lem (an_int a) (a_hex h) e = cc
+same_content_lem (a_hex g) (a_three w) e = cc
+same_content_lem (a_hex g) (a_text k) e = cc
+same_content_lem (a_hex g) (an_int b) e = cc
 same_content_lem (a_hex g) (a_hex h) e = ap a_hex (eqb-true g h e)
 
 pub says_content : (v w : Content) → Says (same_content v w) (v ≡ w)
@@ -80,60 +78,14 @@ says_content v w = (same_content_lem v w, λ e. rw (← e) (content_same v))
 -- TYPED
 says_empty : (l : List ℕ) → Says (is_empty l) (l ≡ [])
 says_empty [] = (λ e. refl, λ e. refl)
-says_empty (x ∷ l) = (λ e. absurd (omega (arith, eqb-true (length (x ∷ l)) 0 e)), λ e. ap is_empty e)
-
-not-one : (v : ℕ) → v ≤ 2 → (v ≡ 1 → ⊥) ↔ ((v ≡ 0) ⊎ (v ≡ 2))
-not-one v le = (λ n. by (eqb v 0) refl n, ⊎_elim (λ e f. omega arith) (λ e f. omega arith))
-  where
-    by : (b : Bool) → eqb v 0 ≡ b → (v ≡ 1 → ⊥) → (v ≡ 0) ⊎ (v ≡ 2)
-    by true e n = inl (eqb-true v 0 e)
-    by false e n = let z = eqb-false v 0 e in inr (omega arith)
+says_empty (x ∷ l) = grind (arith, nat_tests)
 
 pub says_typed : (y : ℕ) (c : Content) → three_in c ≤ 2 → Says (type_fits y c) (Typed y c)
-says_typed y (a_three v) le = says_or (says_and (says_eq y 0) (Iff.trans (says_unlike v 1) (not-one v le))) (says_eq y 1)
+says_typed y (a_three v) le = grind (arith, nat_tests)
 says_typed y (a_text l) le = says_or (says_eq y 2) (says_and (says_or (says_eq y 3) (says_eq y 4)) (says_empty l))
 says_typed y (an_int z) le = says_eq y 3
 says_typed y (a_hex h) le = says_eq y 4
 
 -- WITHIN
-says_order : (a b : ℤ) → Says (le_z a b) (a ≤ℤ b)
-says_order a b = (λ e. record { le = rw e tt }, λ h. is_true (le_z a b) h.le)
-  where
-    is_true : (b : Bool) → T b → b ≡ true
-    is_true true x = refl
-    is_true false x = absurd x
-
-int_is_lem : (p : ℤ → Bool) (c : Content) → int_is p c ≡ true → (z : ℤ) × (c ≡ an_int z) × (p z ≡ true)
-int_is_lem p (a_three v) e = absurd (false≢true e)
-int_is_lem p (a_text l) e = absurd (false≢true e)
-int_is_lem p (an_int z) e = (z, refl, e)
-int_is_lem p (a_hex h) e = absurd (false≢true e)
-
-hex_is_lem : (p : ℕ → Bool) (c : Content) → hex_is p c ≡ true → (h : ℕ) × (c ≡ a_hex h) × (p h ≡ true)
-hex_is_lem p (a_three v) e = absurd (false≢true e)
-hex_is_lem p (a_text l) e = absurd (false≢true e)
-hex_is_lem p (an_int z) e = absurd (false≢true e)
-hex_is_lem p (a_hex h) e = (h, refl, e)
-
-within-range : (low high v : Content) → within low high v ≡ true → IntRange low high v ⊎ HexRange low high v
-within-range low high (a_three v) e = absurd (false≢true e)
-within-range low high (a_text l) e = absurd (false≢true e)
-within-range low high (an_int z) e =
-    let h = (and-eq-true_iff (int_is (λ a. le_z a z) low) _).0 e in
-    let a = int_is_lem (λ a. le_z a z) low h.0 in
-    let b = int_is_lem (λ b. le_z z b) high h.1 in
-    inl (a.0, b.0, z, a.1, b.1, refl, (says_order a.0 z).0 a.2, (says_order z b.0).0 b.2)
-within-range low high (a_hex x) e =
-    let h = (and-eq-true_iff (hex_is (λ a. leb a x) low) _).0 e in
-    let a = hex_is_lem (λ a. leb a x) low h.0 in
-    let b = hex_is_lem (λ b. leb x b) high h.1 in
-    inr (a.0, b.0, x, a.1, b.1, refl, leb-true a.0 x a.2, leb-true x b.0 b.2)
-
-range-within : (low high v : Content) → IntRange low high v ⊎ HexRange low high v → within low high v ≡ true
-range-within low high v (inl h) =
-    rw (h.3, h.4, h.5, (says_order h.0 h.2).1 h.6) ((says_order h.2 h.1).1 h.7)
-range-within low high v (inr h) =
-    rw (h.3, h.4, h.5, le-leb h.0 h.2 h.6) (le-leb h.2 h.1 h.7)
-
 pub says_within : (low high v : Content) → Says (within low high v) (IntRange low high v ⊎ HexRange low high v)
-says_within low high v = (within-range low high v, range-within low high v)
+says_within low high v = grind (arith, nat_tests)

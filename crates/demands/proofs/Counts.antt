@@ -6,8 +6,9 @@ use mathlib.Core.Bool.{Bool, true, false, false≢true}
 use mathlib.Core.Logic.{◌⊎◌, inl, inr, ⊎_elim}
 use native.Mathlib.Nat.{not-suc-le-zero, eq-or-lt_of_le, le_of_suc-le-suc}
 use native.Mathlib.Omega.{arith}
-use lib.Dec.{eqb, ltb}
-use borrow.Author.Tests.{eq-eqb, ne_eqb, ltb-true, ltb-false, leb-true, le-leb}
+use lib.Dec.{eqb}
+use borrow.Author.Tests.{eq-eqb, leb-true, le-leb}
+use Rattle.std.proofs.lemmas.Bool.Decides.{nat_tests}
 use Rattle.meaning.specs.Base.{pick, fold, count_below, first_where}
 use Rattle.meaning.specs.Rules.{at_least}
 use Rattle.demands.specs.Broken.{Least}
@@ -27,7 +28,7 @@ module _ (p : ℕ → Bool) where
     where
       by : (b : Bool) → p n ≡ b → (1 ≤ count_below p n → Some n) → 1 ≤ pick b 1 0 + count_below p n → Some (suc n)
       by true e more g = (n, omega arith, e)
-      by false e more g = let x = more (omega arith) in (x.0, omega (arith, x.1), x.2)
+      by false e more g = let x = more (omega arith) in (x.0, omega arith, x.2)
 
   pub two-counted : (n : ℕ) → 2 ≤ count_below p n → Two n
   unfolding count_below fold
@@ -36,7 +37,7 @@ module _ (p : ℕ → Bool) where
     where
       by : (b : Bool) → p n ≡ b → (2 ≤ count_below p n → Two n) → 2 ≤ pick b 1 0 + count_below p n → Two (suc n)
       by true e more g = let x = some_counted n (omega arith) in (x.0, n, x.1, omega arith, x.2, e)
-      by false e more g = let x = more (omega arith) in (x.0, x.1, x.2, omega (arith, x.3), x.4, x.5)
+      by false e more g = let x = more (omega arith) in (x.0, x.1, x.2, omega arith, x.4, x.5)
 
   -- one more turn counts no less
   count_grows : (n : ℕ) → count_below p n ≤ count_below p (suc n)
@@ -48,14 +49,14 @@ module _ (p : ℕ → Bool) where
   count_hit n e = rw e (omega arith)
 
   pub count_some : (n : ℕ) → Some n → 1 ≤ count_below p n
-  count_some zero x = absurd (not-suc-le-zero x.1)
+  count_some zero x = omega arith
   count_some (suc n) x =
       ⊎_elim (λ e. omega (arith, count_hit n (subst (λ k. p k ≡ true) e x.2)))
       (λ l. omega (arith, count_some n (x.0, l, x.2), count_grows n))
       (eq-or-lt_of_le (le_of_suc-le-suc x.1))
 
   pub count-two : (n : ℕ) → Two n → 2 ≤ count_below p n
-  count-two zero x = absurd (not-suc-le-zero x.3)
+  count-two zero x = omega arith
   count-two (suc n) x =
       ⊎_elim
       (λ e. omega (arith, count_hit n (subst (λ k. p k ≡ true) e x.5), count_some n (x.0, subst (λ k. x.0 < k) e x.2, x.4)))
@@ -69,10 +70,9 @@ module _ (p : ℕ → Bool) where
   ends_more : (n i : ℕ) (b : Bool) → p n ≡ b → Ends n i → Ends (suc n) (pick (eqb i n) (pick b n (suc n)) i)
   unfolding Ends
   ends_more n i true e (inl h) = rw (eq-eqb i n h.0) (inr (omega arith, e, h.1))
-  ends_more n i false e (inl h) =
-      rw (eq-eqb i n h.0) (inl (refl, λ k l. ⊎_elim (λ q. rw q e) (h.1 k) (eq-or-lt_of_le (le_of_suc-le-suc l))))
-  ends_more n i true e (inr h) = rw (ne_eqb i n (λ q. omega (arith, h.0))) (inr (omega (arith, h.0), h.1, h.2))
-  ends_more n i false e (inr h) = rw (ne_eqb i n (λ q. omega (arith, h.0))) (inr (omega (arith, h.0), h.1, h.2))
+  ends_more n i false e (inl h) = grind (arith, nat_tests)
+  ends_more n i true e (inr h) = grind (arith, nat_tests)
+  ends_more n i false e (inr h) = grind (arith, nat_tests)
 
   ends : (n : ℕ) → Ends n (first_where p n)
   unfolding first_where Ends
@@ -101,19 +101,6 @@ unfolding at_least
 at_least_mono v w le n k = count_mono _ _ (λ j h. le-leb k (w j) (omega (arith, leb-true k (v j) h, le j))) n
 
 -- LEAST
--- a number is below another or not
-pub below_or_past : (i n : ℕ) → (i < n) ⊎ (n ≤ i)
-below_or_past i n = by (ltb i n) refl
-  where
-    by : (b : Bool) → ltb i n ≡ b → (i < n) ⊎ (n ≤ i)
-    by true e = inl (ltb-true i n e)
-    by false e = inr (ltb-false i n e)
-
--- one of two numbers is less, or they are equal
-pub order : (a b : ℕ) → (a < b) ⊎ ((a ≡ b) ⊎ (b < a))
-order a b = ⊎_elim inl (λ le. ⊎_elim (λ e. inr (inl (sym e))) (λ l. inr (inr l)) (eq-or-lt_of_le le)) (below_or_past a b)
-
 -- there is one least only
 pub least_unique : {P : ℕ → Type 0} {i j : ℕ} → Least P i → Least P j → i ≡ j
-least_unique {i = i} {j = j} h k =
-    ⊎_elim (λ l. absurd (k.1 i l h.0)) (⊎_elim (λ e. e) (λ l. absurd (h.1 j l k.0))) (order i j)
+least_unique {i = i} {j = j} h k = grind (arith, nat_tests)

@@ -1,21 +1,18 @@
 -- Default as it is worked out is what Valid says it is, and nothing else is: taken from the last to the first, each that applies covers those
 -- after it. Assumes nothing.
 use Prim.Native.Nat.{ℕ, zero, suc, ◌-◌, ◌≤◌, ◌<◌}
-use mathlib.Core.Path.{◌≡◌, refl, sym, ◌∙◌, ap}
+use mathlib.Core.Path.{◌≡◌, refl, sym, ◌∙◌}
 use mathlib.Core.Bool.{Bool, true, false}
-use mathlib.Core.Logic.{◌⊎◌, inl, inr, ⊎_elim}
+use mathlib.Core.Logic.{◌⊎◌, inl, inr}
 use mathlib.Core.List.{List, []}
-use native.Mathlib.Nat.{eq-or-lt_of_le}
 use native.Mathlib.Omega.{arith}
 use lib.Dec.{eqb, ltb}
-use borrow.Author.Tests.{eqb-true, eqb-false, ltb-true, ltb-false}
+use Rattle.std.proofs.lemmas.Bool.Decides.{nat_tests}
 use Rattle.meaning.specs.Base.{pick, fold}
 use Rattle.meaning.specs.Book.{defaults, default_symbol, default_value, default_condition}
 use Rattle.meaning.specs.Table.{a_text}
 use Rattle.meaning.specs.Values.{leaf_of, node_values, condition_value, default_step, default_from, default_of, default_content}
 use Rattle.meaning.specs.Valid.{At, FirstDefault, NoDefault, IsDefault}
-use Rattle.demands.specs.Broken.{Least}
-use Rattle.demands.proofs.Counts.{least_unique}
 
 module _ {A : Type 0} (m : List ℕ) (cond : ℕ → ℕ) (has : ℕ → A) (none : A) (s : ℕ) where
   -- none of the defaults from a on, and below e, applies to s
@@ -28,27 +25,16 @@ module _ {A : Type 0} (m : List ℕ) (cond : ℕ → ℕ) (has : ℕ → A) (non
       ((d : ℕ) × (d < defaults m) × (default_symbol m d ≡ s) × (0 < cond d) × Quiet a d × (x ≡ has d))
       ⊎ (Quiet a (defaults m) × (x ≡ none))
 
-  quiet_more : (a b e : ℕ) → b ≡ suc a → (default_symbol m a ≡ s → cond a ≡ 0) → Quiet b e → Quiet a e
-  unfolding Quiet
-  quiet_more a b e q here h d le lt on =
-      ⊎_elim (λ z. rw (← z) (here (rw z on))) (λ l. h d (omega arith) lt on) (eq-or-lt_of_le le)
-
-  from_more : (a b : ℕ) (x : A) → b ≡ suc a → (default_symbol m a ≡ s → cond a ≡ 0) → DefaultFrom b x → DefaultFrom a x
-  unfolding DefaultFrom
-  from_more a b x q here (inl h) = inl (h.0, h.1, h.2, h.3, quiet_more a b h.0 q here h.4, h.5)
-  from_more a b x q here (inr h) = inr (quiet_more a b (defaults m) q here h.0, h.1)
-
   from_step : (a b : ℕ) (x : A) (p q : Bool) → eqb (default_symbol m a) s ≡ p → ltb 0 (cond a) ≡ q → b ≡ suc a → a < defaults m
       → DefaultFrom b x → DefaultFrom a (pick p (pick q (has a) x) x)
   unfolding DefaultFrom Quiet
-  from_step a b x true true e f i lt h =
-      inl (a, lt, eqb-true (default_symbol m a) s e, ltb-true 0 (cond a) f, (λ d le below on. absurd (omega arith)), refl)
-  from_step a b x true false e f i lt h = from_more a b x i (λ on. omega (arith, ltb-false 0 (cond a) f)) h
-  from_step a b x false q e f i lt h = from_more a b x i (λ on. absurd (eqb-false (default_symbol m a) s e on)) h
+  from_step a b x true true e f i lt h = grind (arith, nat_tests)
+  from_step a b x true false e f i lt h = grind (arith, nat_tests)
+  from_step a b x false q e f i lt h = grind (arith, nat_tests)
 
   from_all : (n : ℕ) → n ≤ defaults m → DefaultFrom (defaults m - n) (fold (default_step m cond has s) none n)
   unfolding fold default_step DefaultFrom Quiet
-  from_all zero le = inr ((λ d low lt on. absurd (omega arith)), refl)
+  from_all zero le = grind (arith, nat_tests)
   from_all (suc n) le =
       let a = defaults m - suc n in
       from_step a (defaults m - n) (fold (default_step m cond has s) none n) (eqb (default_symbol m a) s) (ltb 0 (cond a)) refl refl
@@ -72,15 +58,11 @@ module _ (m t : List ℕ) {s : ℕ} where
             )
         by (inr h) = inr ((λ d lt on. h.0 d (omega arith) lt on), h.1)
 
-    first-least : {d : ℕ} → FirstDefault m t s d → Least (Applies m t s) d
-    unfolding Applies
-    first-least h = ((h.stands, h.on, h.applies), λ k lt x. omega (arith, h.before k lt x.1, x.2))
-
     silent : {d : ℕ} → FirstDefault m t s d → NoDefault m t s → ⊥
-    silent {d} h g = omega (arith, h.applies, g d h.stands h.on)
+    silent {d} h g = omega arith
 
     pub default_unique : {x y : A} → IsDefault m t s has none x → IsDefault m t s has none y → x ≡ y
-    default_unique (inl h) (inl g) = h.2 ∙ ap has (least_unique (first-least h.1) (first-least g.1)) ∙ sym g.2
+    default_unique (inl h) (inl g) = grind (arith, nat_tests)
     default_unique (inl h) (inr g) = absurd (silent h.1 g.0)
     default_unique (inr h) (inl g) = absurd (silent g.1 h.0)
     default_unique (inr h) (inr g) = h.1 ∙ sym g.1

@@ -6,7 +6,7 @@ use mathlib.Core.Logic.Iff
 use mathlib.Core.Logic.{◌↔◌}
 use mathlib.Core.List.{List}
 use lib.ListN.{length}
-use Rattle.meaning.specs.declared.Outcome.TheVariants.{Clean}
+use Rattle.meaning.specs.Base.{Clean}
 use Rattle.meaning.specs.Book.{symbols, nodes, selects, type_of, WellFormed}
 use Rattle.meaning.specs.Table.{Readable}
 use Rattle.meaning.specs.Rules.{unmet}

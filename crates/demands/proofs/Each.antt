@@ -2,21 +2,22 @@
 -- from what its Lower, its Default, its counts and its comparisons say. Assumes nothing.
 use Prim.Native.Nat.{ℕ, ◌≤◌, ◌<◌, max}
 use mathlib.Core.Path.{◌≡◌, refl, sym, ◌∙◌, subst}
-use mathlib.Core.Bool.{Bool, true, false, ◌&&◌, not, and-eq-true_iff}
+use mathlib.Core.Bool.{Bool, true, ◌&&◌, not, and-eq-true_iff}
 use mathlib.Core.Logic.Iff
-use mathlib.Core.Logic.{◌⊎◌, ◌↔◌, ◌≢◌}
+use mathlib.Core.Logic.{◌⊎◌, ◌↔◌, ◌≢◌, ⊎_elim}
 use mathlib.Core.List.{List, []}
 use native.Mathlib.Omega.{arith}
 use lib.Dec.{eqb, leb, ltb}
-use borrow.Author.Tests.{eqb-true, eqb-false, leb-true, le-leb, ltb-true, ltb-false, eq-eqb}
-use Rattle.meaning.specs.Base.{count_below}
+use borrow.Author.Tests.{eqb-true, leb-true, le-leb, eq-eqb}
+use Rattle.std.proofs.lemmas.Bool.Decides.{nat_tests}
+use Rattle.std.proofs.lemmas.Bool.{cases_lt, cases_eq}
 use Rattle.meaning.specs.Book.{type_of, range_symbol, low_of, high_of, range_condition, choices, choice_kind, mandatory_of, choice_prompt, member_count, member_of, modules_of, modules_declared}
 use Rattle.meaning.specs.Table.{a_text, content_of, value_of}
 use Rattle.meaning.specs.Values.{val, leaf_of, node_values, lower_of, default_of, default_content, prompt_value}
 use Rattle.meaning.specs.Rules.{type_fits, broken11, broken12, broken13, broken13_content, broken14, broken15, broken16, broken17, broken18, at_least, some_of, ys_of, ms_of, first_yes, other_of, first_module}
 use Rattle.meaning.specs.Valid.{At, IsLower, IsThree, IsOther, Member}
 use Rattle.demands.specs.Broken.{typed, lower, upper, default, range, one, kind, mandatory, modules, Least, Holds, Second}
-use Rattle.demands.proofs.Bools.{says_unlike, denies_unlike, Says, Denies, says_and, denies_and, denies_then, denies_it, denies_not, says_lt, denies_lt, says_le, denies_le, says_eq, denies_eq, denies_pos, denies_zero, or_assoc}
+use Rattle.demands.proofs.Bools.{says_unlike, denies_unlike, Says, Denies, says_and, denies_and, denies_then, denies_it, denies_not, says_lt, denies_lt, says_le, denies_le, says_eq, denies_pos, denies_zero, or_assoc}
 use Rattle.demands.proofs.Counts.{Some, some_counted, two-counted, count_some, count-two, first-least}
 use Rattle.demands.proofs.Contents.{value-three, says_content, says_typed, says_within}
 use Rattle.demands.proofs.Lower.{lower_is, lower_unique}
@@ -59,7 +60,7 @@ module _ (m t : List ℕ) where
           (λ q. (
             (λ k e i h g. subst (λ x. (0 < p) ⊎ (v ≡ max x k)) (default_unique m t _ 0 (default_is m t) g)
                 (subst (λ x. (0 < p) ⊎ (v ≡ max d x)) (lower_unique m t (lower_is m t) h) q)),
-            (λ e i g. absurd (omega (arith, three.1, i.1))),
+            (λ e i g. absurd (omega arith)),
           )),
           (λ h. h.0 l d three (lower_is m t) (default_is m t)),
         )
@@ -73,7 +74,7 @@ module _ (m t : List ℕ) where
       let d = default_content m t vs s in
       Iff.trans (denies_and (denies_zero p) (denies_not (says_content v d))) (
         (λ q. (
-          (λ k e i h g. absurd (omega (arith, other.1, i.1))),
+          (λ k e i h g. absurd (omega arith)),
           (λ e i g. subst (λ x. (0 < p) ⊎ (v ≡ x)) (default_unique m t _ (a_text []) (content_is m t) g) q),
         )),
         (λ h. h.1 d other (content_is m t)),
@@ -90,14 +91,12 @@ module _ (m t : List ℕ) where
 
   -- 18
   pub each-modules : (s : ℕ) → Denies (modules_declared m && broken18 (value_of t (modules_of m)) (value_of t s)) (Holds m t (modules s))
-  each-modules s =
-      denies_and (denies_unlike (modules_of m) 65535)
-      (denies_and (denies_zero (value_of t (modules_of m))) (denies_eq (value_of t s) 1))
+  each-modules s = grind (arith, nat_tests)
 
 -- a least number by one test is the least by what the test says
 least_says : {p : ℕ → Bool} {n : ℕ} {P : ℕ → Type 0} {i : ℕ}
     → ((j : ℕ) → Says (p j) (P j)) → Least (λ j. (j < n) × (p j ≡ true)) i → Least (λ j. (j < n) × P j) i
-least_says {i = i} says h = ((h.0.0, (says i).0 h.0.1), λ k l q. h.1 k l (q.0, (says k).1 q.1))
+least_says {i = i} says h = grind (arith, nat_tests)
 
 module _ (m t : List ℕ) (c : ℕ) where
   abbrev v : ℕ → ℕ
@@ -115,11 +114,7 @@ module _ (m t : List ℕ) (c : ℕ) where
 
   -- of two that are above n one is another than i
   other_than : (i a b : ℕ) → a < b → b < n → 0 < v a → 0 < v b → i < n → v i ≡ 2 → Beside
-  other_than i a b ab bn pa pb ni y = by (eqb i a) refl
-    where
-      by : (q : Bool) → eqb i a ≡ q → Beside
-      by true e = let z = eqb-true i a e in (i, b, ni, bn, (λ f. omega arith), y, pb)
-      by false e = (i, a, ni, omega arith, eqb-false i a e, y, pa)
+  other_than i a b ab bn pa pb ni y = grind (arith, nat_tests)
 
   beside : 2 ≤ some_of m t c → 1 ≤ ys_of m t c → Beside
   unfolding some_of ys_of at_least
@@ -131,20 +126,16 @@ module _ (m t : List ℕ) (c : ℕ) where
 
   two_of : (i j : ℕ) → i < n → j < n → i ≢ j → 0 < v i → 0 < v j → 2 ≤ some_of m t c
   unfolding some_of at_least
-  two_of i j li lj ne pi pj = by (ltb i j) refl
-    where
-      by : (q : Bool) → ltb i j ≡ q → 2 ≤ count_below (λ k. leb 1 (v k)) n
-      by true e = count-two (λ k. leb 1 (v k)) n (i, j, ltb-true i j e, lj, le-leb 1 (v i) pi, le-leb 1 (v j) pj)
-      by false e =
-          let less : j < i = omega (arith, ltb-false i j e) in
-          count-two (λ k. leb 1 (v k)) n (j, i, less, li, le-leb 1 (v j) pj, le-leb 1 (v i) pi)
+  two_of i j li lj ne pi pj =
+      ⊎_elim (λ l. count-two (λ k. leb 1 (v k)) n (i, j, l, lj, le-leb 1 (v i) pi, le-leb 1 (v j) pj))
+      (λ l. count-two (λ k. leb 1 (v k)) n (j, i, omega arith, li, le-leb 1 (v j) pj, le-leb 1 (v i) pi)) (cases_lt i j)
 
   yes_of : (i : ℕ) → i < n → v i ≡ 2 → 1 ≤ ys_of m t c
   unfolding ys_of at_least
   yes_of i li y = count_some (λ k. leb 2 (v k)) n (i, li, le-leb 2 (v i) (omega arith))
 
   says_one : Says (broken15 p (some_of m t c) (ys_of m t c)) (((0 < p) × (2 ≤ some_of m t c)) × (1 ≤ ys_of m t c))
-  says_one = says_and (says_and (says_lt 0 p) (says_le 2 (some_of m t c))) (says_le 1 (ys_of m t c))
+  says_one = grind (arith, nat_tests)
 
   module _ (lt : c < choices m) where
     -- 15
@@ -156,7 +147,7 @@ module _ (m t : List ℕ) (c : ℕ) where
               omega arith),
           (λ h x.
               let b = beside x.0.1 x.1 in
-              omega (arith, b.6, h b.0 b.1 (lt, x.0.0) b.2 b.3 b.4 b.5)),
+              omega (arith, h b.0 b.1 (lt, x.0.0) b.2 b.3 b.4 b.5)),
         )
 
     -- 16
@@ -190,13 +181,9 @@ module _ (m t : List ℕ) (c : ℕ) where
   says_other y j = says_and (says_lt 0 (v j)) (says_unlike j y)
 
   some_other : (y : ℕ) → Beside → Some (λ j. ltb 0 (v j) && not (eqb j y)) n
-  some_other y b = by (eqb b.1 y) refl
-    where
-      by : (q : Bool) → eqb b.1 y ≡ q → Some (λ j. ltb 0 (v j) && not (eqb j y)) n
-      by true e =
-          let z = eqb-true b.1 y e in
-          (b.0, b.2, (says_other y b.0).1 (omega (arith, b.5), λ f. b.4 (f ∙ sym z)))
-      by false e = (b.1, b.3, (says_other y b.1).1 (b.6, eqb-false b.1 y e))
+  some_other y b =
+      ⊎_elim (λ z. (b.0, b.2, (says_other y b.0).1 (omega arith, λ f. b.4 (f ∙ sym z)))) (λ ne. (b.1, b.3, (says_other y b.1).1 (b.6, ne)))
+      (cases_eq b.1 y)
 
   pub second-one : broken15 p (some_of m t c) (ys_of m t c) ≡ true → Second m t (one c) (member_of m c (other_of m t c))
   unfolding other_of first_yes

@@ -2,13 +2,13 @@
 -- A search gives a fault exactly where it finds that one and all before it are clean. Assumes nothing.
 use Prim.Native.Nat.{ℕ, ◌<◌}
 use mathlib.Core.Path.{◌≡◌, refl, sym, ◌∙◌, ap, subst}
-use mathlib.Core.Bool.{Bool, true, false, true≢false, false≢true}
+use mathlib.Core.Bool.{Bool, true, false}
 use mathlib.Core.Logic.Iff
 use mathlib.Core.Logic.{◌⊎◌, inl, inr, ◌↔◌, ⊎_elim}
 use native.Mathlib.Omega.{arith}
-use Rattle.meaning.specs.declared.Outcome.{Outcome}
-use Rattle.meaning.specs.declared.Outcome.TheVariants.{Clean, Fault}
-use Rattle.meaning.specs.Base.{pick, when, or_else, first_below, answer_of}
+use Rattle.std.proofs.lemmas.Bool.Decides.{nat_tests}
+use Rattle.std.specs.Prelude.{Ok, Err}
+use Rattle.meaning.specs.Base.{Outcome, Fault, pick, when, or_else, first_below, answer_of}
 use Rattle.meaning.proofs.First.{IsClean, IsFault, a_fault, or_else_iff, when_iff, clean_iff, first_is, fault_first}
 use Rattle.demands.specs.Broken.{Least}
 use Rattle.demands.proofs.Bools.{Says, Denies, denies_it}
@@ -18,17 +18,11 @@ module _ {n p s n' p' s' : ℕ} (e : Fault n p s ≡ Fault n' p' s') where
   pub same_number : n ≡ n'
   same_number = ap (λ o. (answer_of o).number) e
 
-  pub same_place : p ≡ p'
-  same_place = ap (λ o. (answer_of o).place) e
-
-  pub same_second : s ≡ s'
-  same_second = ap (λ o. (answer_of o).second) e
-
 pub same_fault : {n p s n' p' s' : ℕ} → n ≡ n' → p ≡ p' → s ≡ s' → Fault n p s ≡ Fault n' p' s'
-same_fault e f g = rw (e, f, g)
+same_fault e f g = cc
 
 not_clean : {o : Outcome} {n p s : ℕ} → o ≡ Fault n p s → IsFault o
-not_clean {n = n} {p = p} {s = s} e c = a_fault n p s (sym e ∙ c)
+not_clean e c = cc
 
 -- ONE CERTAIN FAULT
 pub clean_when : {b : Bool} {P : Type 0} (n p s : ℕ) → Denies b P → IsClean (when b (Fault n p s)) ↔ P
@@ -36,17 +30,14 @@ clean_when {b} n p s d = let w = when_iff b (Fault n p s) (a_fault n p s) in (λ
 
 pub fault_when : {b : Bool} {P : Type 0} (k q r : ℕ) {n p s : ℕ} → Says b P → (when b (Fault k q r) ≡ Fault n p s) ↔ (P × (n ≡ k) × (p ≡ q) × (s ≡ r))
 unfolding when
-fault_when {b = true} k q r says = (
-  (λ e. (says.0 refl, sym (same_number e), sym (same_place e), sym (same_second e))),
-  (λ h. same_fault (sym h.1) (sym h.2) (sym h.3)),
-)
+fault_when {b = true} k q r says = grind (arith, nat_tests)
 fault_when {b = false} k q r {n = n} {p = p} {s = s} says =
-    ((λ e. absurd (a_fault n p s (sym e))), (λ h. absurd (false≢true (says.1 h.0))))
+    ((λ e. cc), (λ h. let z = says.1 h.0 in cc))
 
 fault_then : (a b : Outcome) (n p s : ℕ) → (or_else a b ≡ Fault n p s) ↔ ((a ≡ Fault n p s) ⊎ (IsClean a × (b ≡ Fault n p s)))
 unfolding or_else
-fault_then Clean b n p s = ((λ e. inr (refl, e)), ⊎_elim (λ e. absurd (a_fault n p s (sym e))) (λ h. h.1))
-fault_then (Fault i j k) b n p s = (inl, ⊎_elim (λ e. e) (λ h. absurd (a_fault i j k h.0)))
+fault_then (Ok tt) b n p s = grind (arith, nat_tests)
+fault_then (Err f) b n p s = (inl, ⊎_elim (λ e. e) (λ h. cc))
 
 -- it stands at place i, and the places before it are clean
 pub record Stops (f : ℕ → Outcome) (n k p s i : ℕ) : Type 0 where
@@ -113,12 +104,12 @@ search_each {b} {P} {Q} num q r k says denies =
                 let x = f.0 e in
                 (x.0, ((x.1, x.2.0), λ j l y. clash j (x.3 j l) y.1), x.2.1, x.2.2, x.2.3)),
             (λ x.
-                f.1 (x.0, x.1.0.0, (x.1.0.1, x.2, x.3, x.4), λ j l. (denies j).0 (absent j (λ y. x.1.1 j l (omega (arith, x.1.0.0), y))))),
+                f.1 (x.0, x.1.0.0, (x.1.0.1, x.2, x.3, x.4), λ j l. (denies j).0 (absent j (λ y. x.1.1 j l (omega arith, y))))),
           );
     }
   where
     clash : (j : ℕ) → Q j → ¬ P j
-    clash j x y = true≢false (sym ((says j).1 y) ∙ (denies j).1 x)
+    clash j x y = cc ((says j).1 y, (denies j).1 x)
 
     absent : (j : ℕ) → ¬ P j → b j ≡ false
     absent j = (denies_it (says j)).1
@@ -131,7 +122,7 @@ module _ {P : ℕ → Type 0} where
   pub numbers_when : (b : Bool) (k q r : ℕ) → P k → Numbers P (when b (Fault k q r))
   unfolding when
   numbers_when true k q r h = record { has = λ n p s e. subst P (same_number e) h }
-  numbers_when false k q r h = record { has = λ n p s e. absurd (a_fault n p s (sym e)) }
+  numbers_when false k q r h = record { has = λ n p s e. cc }
 
   pub numbers_then : (a b : Outcome) → Numbers P a → Numbers P b → Numbers P (or_else a b)
   numbers_then a b h k =
@@ -156,18 +147,18 @@ numbers_of f h = record { has = λ n p s e. h n p s ((f.fault n p s).0 e) }
 
 -- the number that is answered: 0, or the fault's
 pub numbers_answer : {P : ℕ → Type 0} (o : Outcome) → P 0 → Numbers P o → P (answer_of o).number
-numbers_answer Clean z h = z
-numbers_answer (Fault n p s) z h = h.has n p s refl
+numbers_answer (Ok tt) z h = z
+numbers_answer (Err f) z h = h.has f.number f.place f.second refl
 
 -- by a test, where the other side cannot have the number
 pub fault_pick : {P : ℕ → Type 0} {b : Bool} {Q : Type 0} (a c : Outcome) (n p s : ℕ) → Says b Q → Numbers P c → ¬ P n
     → (pick b a c ≡ Fault n p s) ↔ (Q × (a ≡ Fault n p s))
 fault_pick {b = true} a c n p s says h not = ((λ e. (says.0 refl, e)), (λ x. x.1))
 fault_pick {b = false} a c n p s says h not =
-    ((λ e. absurd (not (h.has n p s e))), (λ x. absurd (false≢true (says.1 x.0))))
+    ((λ e. absurd (not (h.has n p s e))), (λ x. cc (says.1 x.0)))
 
 pub fault_unpicked : {P : ℕ → Type 0} {b : Bool} {Q : Type 0} (a c : Outcome) (n p s : ℕ) → Denies b Q → Numbers P a → ¬ P n
     → (pick b a c ≡ Fault n p s) ↔ (Q × (c ≡ Fault n p s))
 fault_unpicked {b = true} a c n p s denies h not =
-    ((λ e. absurd (not (h.has n p s e))), (λ x. absurd (true≢false (denies.1 x.0))))
+    ((λ e. absurd (not (h.has n p s e))), (λ x. cc (denies.1 x.0)))
 fault_unpicked {b = false} a c n p s denies h not = ((λ e. (denies.0 refl, e)), (λ x. x.1))

@@ -8,9 +8,7 @@ use mathlib.Core.Logic.{◌↔◌}
 use mathlib.Core.List.{List}
 use native.Mathlib.Omega.{arith}
 use borrow.Author.Tests.{eq-eqb, ne_eqb}
-use Rattle.meaning.specs.declared.Outcome.{Outcome}
-use Rattle.meaning.specs.declared.Outcome.TheVariants.{Clean, Fault}
-use Rattle.meaning.specs.Base.{or_else}
+use Rattle.meaning.specs.Base.{Outcome, Clean, Fault, or_else}
 use Rattle.meaning.specs.Book.{symbols, nodes, book_fault, WellFormed}
 use Rattle.meaning.specs.Table.{table_fault, Readable}
 use Rattle.meaning.specs.Rules.{rule_fault, node_room_fault}
@@ -19,7 +17,7 @@ use Rattle.meaning.specs.Findings.{select_of, finding_kind, head_fault, witness_
 use Rattle.meaning.proofs.First.{IsClean, or_else_iff}
 use Rattle.demands.specs.Broken.{FirstBroken}
 use Rattle.demands.specs.Refused.{BadHead, GoodHead, Admitted, Between}
-use Rattle.demands.proofs.Bools.{none_of, says_not, denies_it, says_eq, denies_zero}
+use Rattle.demands.proofs.Bools.{says_not, denies_it, says_eq, denies_zero}
 use Rattle.demands.proofs.Faults.{fault_when, fault_ahead, fault_behind, fault_pick, fault_unpicked}
 use Rattle.demands.proofs.Readable.{readable_iff}
 use Rattle.demands.proofs.ValidIff.{valid_iff}
@@ -53,34 +51,34 @@ module _ (m f : List ℕ) (node_room symbol_room : ℕ) where
     unfolding finding_refusal
     finding_refused_1_to_4 l =
         Iff.trans
-        (to_finding_refusal (none_of (λ x. omega (arith, x.0)) (λ x. omega (arith, x.0)) (λ x. omega (arith, x.0))))
-        (fault_ahead _ _ n p s (behind_head_numbers m f node_room symbol_room) (λ x. omega (arith, x.0)))
+        (to_finding_refusal (omega arith))
+        (fault_ahead _ _ n p s (behind_head_numbers m f node_room symbol_room) (omega arith))
 
     behind_book_of : ¬ OfBody n → 4 < n
         → (finding_outcome m f node_room symbol_room ≡ Fault n p s) ↔ (WellFormed m × (or_else (head_fault m f) Rooms ≡ Fault n p s))
     unfolding finding_refusal
     behind_book_of not l =
         Iff.trans (to_finding_refusal not)
-        (Iff.trans (fault_behind _ _ n p s (book_numbers m) (λ x. omega (arith, x.1))) (Iff.and (book_iff m) Iff.rfl))
+        (Iff.trans (fault_behind _ _ n p s (book_numbers m) (omega arith)) (Iff.and (book_iff m) Iff.rfl))
 
     behind_head : ¬ OfBody n → 4 < n → n < 21
         → (finding_outcome m f node_room symbol_room ≡ Fault n p s) ↔ (WellFormed m × (GoodHead m f × (Rooms ≡ Fault n p s)))
     behind_head not l k =
         Iff.trans (behind_book_of not l)
         (Iff.and Iff.rfl
-        (Iff.trans (fault_behind _ _ n p s (head_numbers m f) (λ x. omega (arith, x.0))) (Iff.and (head_search m f).clean Iff.rfl)))
+        (Iff.trans (fault_behind _ _ n p s (head_numbers m f) (omega arith)) (Iff.and (head_search m f).clean Iff.rfl)))
 
   no_body : (n : ℕ) → 6 < n → n < 10 → ¬ OfBody n
-  no_body n l k = none_of (λ x. omega (arith, x.1)) (λ x. omega (arith, x.0)) (λ x. omega (arith, x.0))
+  no_body n l k = omega arith
 
   module _ (p s : ℕ) where
     pub finding_refused_21 :
         (finding_outcome m f node_room symbol_room ≡ Fault 21 p s) ↔ (WellFormed m × BadHead m f × (p ≡ 0) × (s ≡ 65535))
     finding_refused_21 =
         Iff.trans
-        (behind_book_of 21 p s (none_of (λ x. omega (arith, x.1)) (λ x. omega (arith, x.1)) (λ x. omega (arith, x.0))) (omega arith))
+        (behind_book_of 21 p s (omega arith) (omega arith))
         (Iff.trans
-        (Iff.and Iff.rfl (Iff.trans (fault_ahead _ _ 21 p s (room_numbers m node_room symbol_room) (λ x. omega (arith, x.1))) ((head_search m f).fault 21 p s)))
+        (Iff.and Iff.rfl (Iff.trans (fault_ahead _ _ 21 p s (room_numbers m node_room symbol_room) (omega arith)) ((head_search m f).fault 21 p s)))
         ((λ x. (x.0, x.1.0, x.1.2, x.1.3)), (λ x. (x.0, (x.1, refl, x.2, x.3)))))
 
     pub finding_refused_7 :
@@ -91,7 +89,7 @@ module _ (m f : List ℕ) (node_room symbol_room : ℕ) where
         (Iff.trans
         (Iff.and Iff.rfl
         (Iff.and Iff.rfl
-        (Iff.trans (fault_ahead _ _ 7 p s (symbol_room_numbers m symbol_room) (λ x. omega (arith, x.0)))
+        (Iff.trans (fault_ahead _ _ 7 p s (symbol_room_numbers m symbol_room) (omega arith))
         ((node_room_search m node_room).fault 7 p s)))) (
           (λ x. (x.0, x.1.0, x.1.1.0, x.1.1.2, x.1.1.3)),
           (λ x. (x.0, (x.1, (x.2, refl, x.3, x.4)))),
@@ -105,7 +103,7 @@ module _ (m f : List ℕ) (node_room symbol_room : ℕ) where
         (Iff.trans
         (Iff.and Iff.rfl
         (Iff.and Iff.rfl
-        (Iff.trans (fault_behind _ _ 8 p s (node_room_numbers m node_room) (λ x. omega (arith, x.1)))
+        (Iff.trans (fault_behind _ _ 8 p s (node_room_numbers m node_room) (omega arith))
         (Iff.and (node_room_search m node_room).clean ((symbol_room_search m symbol_room).fault 8 p s))))) (
           (λ x. (x.0, x.1.0, x.1.1.0, x.1.1.1.0, x.1.1.1.2, x.1.1.1.3)),
           (λ x. (x.0, (x.1, (x.2, (x.3, refl, x.4, x.5))))),
@@ -127,8 +125,8 @@ module _ (m f : List ℕ) (node_room symbol_room : ℕ) where
     unfolding witness_fault
     witness_refused_5_6 l k =
         Iff.trans
-        (to_witness (none_of (λ x. omega (arith, x.1)) (λ x. omega (arith, x.0)) (λ x. omega (arith, x.0))) (λ x. omega (arith, x.0)))
-        (Iff.and Iff.rfl (Iff.and Iff.rfl (fault_ahead _ _ n p s (behind_table_numbers m f) (λ x. omega (arith, x.0)))))
+        (to_witness (omega arith) (omega arith))
+        (Iff.and Iff.rfl (Iff.and Iff.rfl (fault_ahead _ _ n p s (behind_table_numbers m f) (omega arith))))
 
     pub witness_broken : 10 ≤ n → n ≤ 18
         → (finding_outcome m f node_room symbol_room ≡ Fault n p s)
@@ -137,12 +135,12 @@ module _ (m f : List ℕ) (node_room symbol_room : ℕ) where
     unfolding witness_fault
     witness_broken l k =
         Iff.trans
-        (to_witness (none_of (λ x. omega (arith, x.1)) (λ x. omega (arith, x.1)) (λ x. omega (arith, x.0))) (λ x. omega (arith, x.0)))
+        (to_witness (omega arith) (omega arith))
         (Iff.and Iff.rfl
         (Iff.and Iff.rfl
-        (Iff.trans (fault_behind _ _ n p s (entry_numbers (witness_table f) (symbols m)) (λ x. omega (arith, x.1)))
+        (Iff.trans (fault_behind _ _ n p s (entry_numbers (witness_table f) (symbols m)) (omega arith))
         (Iff.and (readable_iff (witness_table f) (symbols m))
-        (Iff.trans (fault_ahead _ _ n p s (met_numbers m f) (λ x. omega (arith, x.0))) (first_broken m (witness_table f) n p s))))))
+        (Iff.trans (fault_ahead _ _ n p s (met_numbers m f) (omega arith)) (first_broken m (witness_table f) n p s))))))
 
   -- 24 is the last of the witness's three tests
   met_iff : (n p s : ℕ) → 18 < n
@@ -153,9 +151,9 @@ module _ (m f : List ℕ) (node_room symbol_room : ℕ) where
   unfolding witness_fault
   met_iff n p s l =
       let t = witness_table f in
-      Iff.trans (fault_behind _ _ n p s (entry_numbers t (symbols m)) (λ x. omega (arith, x.1)))
+      Iff.trans (fault_behind _ _ n p s (entry_numbers t (symbols m)) (omega arith))
       (Iff.and (readable_iff t (symbols m))
-      (Iff.trans (fault_behind _ _ n p s (rule_numbers m t) (λ x. omega (arith, x.1)))
+      (Iff.trans (fault_behind _ _ n p s (rule_numbers m t) (omega arith))
       (Iff.and Iff.rfl (fault_when 24 (select_of f) 65535 (says_not (denies_it (says_unmet m t (select_of f))))))))
 
   pub witness_refused_24 : (p s : ℕ)
@@ -165,7 +163,7 @@ module _ (m f : List ℕ) (node_room symbol_room : ℕ) where
   witness_refused_24 p s =
       let valid = valid_iff m (witness_table f) in
       Iff.trans
-      (to_witness 24 p s (none_of (λ x. omega (arith, x.1)) (λ x. omega (arith, x.1)) (λ x. omega (arith, x.1))) (λ x. omega (arith, x.1)))
+      (to_witness 24 p s (omega arith) (omega arith))
       (Iff.trans (Iff.and Iff.rfl (Iff.and Iff.rfl (met_iff 24 p s (omega arith)))) (
         (λ x.
             let y = x.1.1 in
@@ -192,12 +190,12 @@ module _ (m f : List ℕ) (node_room symbol_room : ℕ) where
   clearance_refused n p s l k =
       Iff.trans
       (fault_behind _ _ n p s (finding_refusal_numbers m f node_room symbol_room)
-      (none_of (λ x. omega (arith, x.1)) (λ x. omega (arith, x.1)) (λ x. omega (arith, x.1))))
+      (omega arith))
       (Iff.trans
       (Iff.and admitted_iff
       (fault_unpicked _ _ n p s (denies_zero (finding_kind f)) (witness_numbers m f)
-      (none_of (λ x. omega (arith, x.1)) (λ x. omega (arith, x.1)) (λ x. omega (arith, x.0)))))
-      ((λ x. (x.0, omega (arith, x.0.1.0.3, x.1.0), x.1.1)), (λ x. (x.0, (omega (arith, x.1), x.2)))))
+      (omega arith)))
+      ((λ x. (x.0, omega arith, x.1.1)), (λ x. (x.0, (omega arith, x.2)))))
 
   pub clearance_accepted : finding_kind f ≡ 1
       → (finding_outcome m f node_room symbol_room ≡ Clean) ↔ (Admitted m f node_room symbol_room × (clearance_fault m f ≡ Clean))

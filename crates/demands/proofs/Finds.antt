@@ -1,19 +1,18 @@
 -- What a search in order finds, of the rules and places it goes through: all kept where it is clean, else the first that is broken. It holds for
 -- a search of two parts, and so for any. Assumes nothing.
 use Prim.Native.Nat.{ℕ, zero, suc, ◌<◌}
-use mathlib.Core.Path.{◌≡◌, refl, sym, ◌∙◌, subst}
-use mathlib.Core.Bool.{Bool, true, false, true≢false}
+use mathlib.Core.Path.{◌≡◌, refl, subst}
+use mathlib.Core.Bool.{Bool, true, false}
 use mathlib.Core.Logic.{inl, inr, ◌↔◌, ⊎_elim}
 use mathlib.Core.List.{List, [], ◌∷◌, ◌++◌}
 use native.Mathlib.Nat.{not-suc-le-zero, eq-or-lt_of_le, le_of_suc-le-suc}
 use native.Mathlib.Omega.{arith}
-use Rattle.meaning.specs.declared.Outcome.{Outcome}
-use Rattle.meaning.specs.declared.Outcome.TheVariants.{Clean, Fault}
-use Rattle.meaning.specs.Base.{when, or_else, first_below}
-use Rattle.meaning.proofs.First.{IsClean, a_fault}
+use Rattle.std.proofs.lemmas.Bool.Decides.{nat_tests}
+use Rattle.std.specs.Prelude.{Ok, Err}
+use Rattle.meaning.specs.Base.{Outcome, Fault, when, or_else, first_below}
+use Rattle.meaning.proofs.First.{IsClean}
 use Rattle.demands.specs.Broken.{Spot, rule_of, place_of, in_turn, All, FirstNot, Holds, Second}
 use Rattle.demands.proofs.Bools.{Denies}
-use Rattle.demands.proofs.Faults.{same_number, same_place, same_second}
 
 module _ (P : Spot → Type 0) where
   pub all_append : (a b : List Spot) → All P (a ++ b) ↔ (All P a × All P b)
@@ -49,7 +48,7 @@ module _ (P : Spot → Type 0) where
 
   pub first_unique : (a : List Spot) (x y : Spot) → FirstNot P a x → FirstNot P a y → x ≡ y
   first_unique [] x y h k = absurd h
-  first_unique (z ∷ a) x y (inl h) (inl k) = sym h.0 ∙ k.0
+  first_unique (z ∷ a) x y (inl h) (inl k) = cc
   first_unique (z ∷ a) x y (inl h) (inr k) = absurd (h.1 (subst P h.0 k.0))
   first_unique (z ∷ a) x y (inr h) (inl k) = absurd (k.1 (subst P k.0 h.0))
   first_unique (z ∷ a) x y (inr h) (inr k) = first_unique a x y h.1 k.1
@@ -63,39 +62,30 @@ module _ (m t : List ℕ) where
     pub fault : (n p s : ℕ) → o ≡ Fault n p s → Found l n p s
 
   pub finds_kept : {x : Spot} {l : List Spot} {o : Outcome} → Holds m t x → Finds l o → Finds (x ∷ l) o
-  finds_kept h f =
-      record {
-        clean = λ e. (h, f.clean e);
-        fault = λ n p s e. let y = f.fault n p s e in (y.0, inr (h, y.1), y.2, y.3, y.4);
-      }
+  finds_kept h f = grind (arith, nat_tests)
 
   pub finds_one : (x : Spot) (s : ℕ) {b : Bool} → Denies b (Holds m t x) → (b ≡ true → Second m t x s)
       → Finds (x ∷ []) (when b (Fault (rule_of x) (place_of x) s))
   unfolding when
-  finds_one x s {b = true} d at =
-      record {
-        clean = λ e. absurd (a_fault _ _ _ e);
-        fault = λ n p s' e.
-            (x, inl (refl, λ h. true≢false (d.1 h)), same_number e, same_place e, subst (Second m t x) (same_second e) (at refl));
-      }
-  finds_one x s {b = false} d at = record { clean = λ e. (d.0 refl, tt); fault = λ n p s' e. absurd (a_fault n p s' (sym e)) }
+  finds_one x s {b = true} d at = grind (arith, nat_tests)
+  finds_one x s {b = false} d at = grind (arith, nat_tests)
 
   pub finds_then : {l k : List Spot} (a : Outcome) {b : Outcome} → Finds l a → Finds k b → Finds (l ++ k) (or_else a b)
   unfolding or_else
-  finds_then {l} {k} Clean f g =
+  finds_then {l} {k} (Ok tt) f g =
       record {
         clean = λ e. (all_append (Holds m t) l k).1 (f.clean refl, g.clean e);
         fault = λ n p s e.
             let x = g.fault n p s e in
             (x.0, first_behind (Holds m t) l k x.0 (f.clean refl) x.1, x.2, x.3, x.4);
       }
-  finds_then {l} {k} (Fault i j h) f g =
+  finds_then {l} {k} (Err o) f g =
       record {
-        clean = λ e. absurd (a_fault i j h e);
+        clean = λ e. cc;
         fault = λ n p s e. let x = f.fault n p s e in (x.0, first_front (Holds m t) l k x.0 x.1, x.2, x.3, x.4);
       }
 
   pub finds_turn : (at : ℕ → List Spot) (f : ℕ → Outcome) (n : ℕ) → ((i : ℕ) → i < n → Finds (at i) (f i)) → Finds (in_turn at n) (first_below f n)
   unfolding in_turn first_below
-  finds_turn at f zero h = record { clean = λ e. tt; fault = λ n p s e. absurd (a_fault n p s (sym e)) }
+  finds_turn at f zero h = record { clean = λ e. tt; fault = λ n p s e. cc }
   finds_turn at f (suc n) h = finds_then (first_below f n) (finds_turn at f n (λ i lt. h i (omega arith))) (h n (omega arith))

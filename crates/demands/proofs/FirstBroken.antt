@@ -4,11 +4,12 @@ use Prim.Native.Nat.{ℕ}
 use mathlib.Core.Path.{◌≡◌, refl, sym, ◌∙◌, ap, subst}
 use mathlib.Core.Logic.{◌↔◌}
 use mathlib.Core.List.{List}
-use Rattle.meaning.specs.declared.Outcome.{Outcome}
-use Rattle.meaning.specs.declared.Outcome.TheVariants.{Clean, Fault}
+use borrow.Author.Rules.{rules}
+use Rattle.std.specs.Prelude.{Ok, Err}
+use Rattle.meaning.specs.Base.{Outcome, Fault}
 use Rattle.meaning.specs.Book.{member_of}
 use Rattle.meaning.specs.Rules.{rule_fault}
-use Rattle.demands.specs.Broken.{Spot, typed, lower, upper, default, range, one, kind, mandatory, modules, rule_of, place_of, listed, Least, IsOtherThan, Holds, Second, FirstBroken}
+use Rattle.demands.specs.Broken.{Spot, typed, lower, upper, default, range, one, kind, mandatory, modules, rule_of, place_of, listed, Holds, Second, FirstBroken}
 use Rattle.demands.proofs.Counts.{least_unique}
 use Rattle.demands.proofs.Faults.{same_fault}
 use Rattle.demands.proofs.Finds.{first_none, first_unique}
@@ -20,9 +21,7 @@ second_unique m t (lower s) h k = h ∙ sym k
 second_unique m t (upper s) h k = h ∙ sym k
 second_unique m t (default s) h k = h ∙ sym k
 second_unique m t (range s r) h k = h ∙ sym k
-second_unique m t (one c) h k =
-    let i = least_unique h.2 k.2 in
-    h.4 ∙ ap (member_of m c) (least_unique (subst (λ y. Least (IsOtherThan m t c y) h.1) i h.3) k.3) ∙ sym k.4
+second_unique m t (one c) h k = search rules
 second_unique m t (kind c) h k = h.2 ∙ ap (member_of m c) (least_unique h.1 k.1) ∙ sym k.2
 second_unique m t (mandatory c) h k = h ∙ sym k
 second_unique m t (modules s) h k = h ∙ sym k
@@ -36,9 +35,9 @@ first_broken m t n p s = (
 )
   where
     by : (o : Outcome) → rule_fault m t ≡ o → FirstBroken m t n p s → o ≡ Fault n p s
-    by Clean e h = absurd (first_none (Holds m t) (listed m) h.spot ((rules_found m t).clean e) h.first)
-    by (Fault n' p' s') e h =
-        let x = (rules_found m t).fault n' p' s' e in
+    by (Ok tt) e h = absurd (first_none (Holds m t) (listed m) h.spot ((rules_found m t).clean e) h.first)
+    by (Err f) e h =
+        let x = (rules_found m t).fault f.number f.place f.second e in
         let same : x.0 ≡ h.spot = first_unique (Holds m t) (listed m) x.0 h.spot x.1 h.first in
         same_fault (sym x.2 ∙ ap rule_of same ∙ h.rule) (sym x.3 ∙ ap place_of same ∙ h.place)
-        (second_unique m t h.spot (subst (λ y. Second m t y s') same x.4) h.second)
+        (second_unique m t h.spot (subst (λ y. Second m t y f.second) same x.4) h.second)

@@ -12,9 +12,9 @@ use lib.Pow.{pow_mono}
 use lib.ListN.{length, get_or, set, length-append}
 use lib.Seq.{get_or_at, set_at}
 use borrow.Author.Tests.{eq-eqb}
-use Rattle.meaning.specs.declared.Outcome.{Outcome}
-use Rattle.meaning.specs.declared.Outcome.TheVariants.{Clean, Fault}
-use Rattle.meaning.specs.Base.{pick, tabulate, when}
+use Rattle.std.proofs.lemmas.Bool.{cases_lt}
+use Rattle.std.specs.Prelude.{Ok, Err}
+use Rattle.meaning.specs.Base.{Outcome, Clean, pick, tabulate, when}
 use Rattle.meaning.specs.Book.{symbols, selects, type_of, WellFormed}
 use Rattle.meaning.specs.Table.{table_fault}
 use Rattle.meaning.specs.Values.{val}
@@ -26,7 +26,6 @@ use Rattle.meaning.proofs.Folds.{tabulate_at, tabulate_past, tabulate-length}
 use Rattle.demands.specs.Refused.{GoodHead}
 use Rattle.demands.proofs.Lifts.{full_n, Is, is_lifts}
 use Rattle.demands.proofs.Relate.{Rel, nil, cons, snoc, rel_at}
-use Rattle.demands.proofs.Counts.{below_or_past}
 use Rattle.demands.proofs.Bytes.{At, at_whole, at_read, at_skip, at_half}
 use Rattle.demands.proofs.Trees.{WalkedThrough, leaf_walked, two-walked, three-walked}
 use Rattle.demands.proofs.Leaves.{readable, Good, good_rules, good20}
@@ -116,10 +115,10 @@ module _ (m : List ℕ) (q : ℕ) (wf : WellFormed m) (all : (s : ℕ) → s < s
     leaf : (f : List ℕ) (k : ℕ) (o : Outcome) → rule_fault m (table_of vs) ≡ o → Good m q wf all vs ys size alone allowed o
         → WalkedThrough m q f k ys (leaf_bytes q o)
     unfolding bytes_of
-    leaf f k Clean e g =
+    leaf f k (Ok tt) e g =
         let s = good20 m q wf all vs ys size alone allowed (clear (table_of vs) (readable m q wf all vs ys size alone allowed) e) in
         leaf_walked m q f k ys 20 q s.0 s.1
-    leaf f k (Fault rule place second) e g = leaf_walked m q f k ys rule place g.0 g.1
+    leaf f k (Err o) e g = leaf_walked m q f k ys o.number o.place g.0 g.1
 
   is_n : Is 1 0
   unfolding only
@@ -160,7 +159,7 @@ module _ (m : List ℕ) (q : ℕ) (wf : WellFormed m) (all : (s : ℕ) → s < s
       ⊎_elim
       (λ lt. rw (tabulate_at (type_of m) 0 (symbols m) i lt) (all i lt))
       (λ le. rw (tabulate_past (type_of m) 0 (symbols m) i le) (omega arith))
-      (below_or_past i (symbols m))
+      (cases_lt i (symbols m))
 
   start : Chosen m (types m) [] (full_sets m)
   unfolding full_sets
@@ -172,7 +171,7 @@ module _ (m : List ℕ) (q : ℕ) (wf : WellFormed m) (all : (s : ℕ) → s < s
       let f = complete m q in
       let here : At f 4 (tree m q ++ []) = rw append-nil (tree_at m q) in
       let w = tree_walked f (types m) [] (full_sets m) 64 start types_small (rw (tabulate-length (type_of m) (symbols m)) few) [] 4 here in
-      let end : w.to ≡ length f = omega (arith, w.left.ends) in
+      let end : w.to ≡ length f = omega arith in
       rw (complete-select m q, w.walk, eq-eqb w.to (length f) end)
 
 -- LENGTH: it doubles with each symbol at least, so what can be read has few symbols
@@ -181,8 +180,8 @@ both_long true n a b d la lb = omega (arith, length-append a b)
 both_long false n a b d la lb = omega (arith, length-append a (d ++ b), length-append d b)
 
 leaf-long : (q : ℕ) (o : Outcome) → 1 ≤ length (leaf_bytes q o)
-leaf-long q Clean = omega arith
-leaf-long q (Fault n p s) = omega arith
+leaf-long q (Ok tt) = omega arith
+leaf-long q (Err f) = omega arith
 
 tree_long : (m : List ℕ) (q : ℕ) (ts vs : List ℕ) → 2 ^ length ts ≤ length (complete_tree m q ts vs)
 unfolding complete_tree bytes_of
@@ -190,16 +189,16 @@ tree_long m q [] vs = leaf-long q (rule_fault m (table_of vs))
 tree_long m q (y ∷ ts) vs =
     let below : ℕ → List ℕ = λ v. complete_tree m q ts (vs ++ (v ∷ [])) in
     let long = both_long (eqb y 0) (2 ^ length ts) (below 0) (below 2) (below 1) (tree_long m q ts _) (tree_long m q ts _) in
-    omega (arith, pow-suc 2 (length ts), long)
+    omega (arith, pow-suc 2 (length ts))
 
 few-symbols : (m : List ℕ) (q : ℕ) → length (complete m q) ≤ 65535 → symbols m ≤ 64
-few-symbols m q le = ⊎_elim (λ lt. omega arith) (λ many. absurd (long many)) (below_or_past (symbols m) 16)
+few-symbols m q le = ⊎_elim (λ lt. omega arith) (λ many. absurd (long many)) (cases_lt (symbols m) 16)
   where
     long : 16 ≤ symbols m → ⊥
     long many =
         let doubled : 2 ^ symbols m ≤ length (tree m q) = rw (tabulate-length (type_of m) (symbols m)) at (tree_long m q (types m) []) in
         let power : 2 ^ 16 ≡ 65536 = refl in
-        omega (arith, power, pow_mono many, doubled, (tree_at m q).ends)
+        omega (arith, pow_mono many, (tree_at m q).ends)
 
 -- THE COMPLETE CLEARANCE as a finding
 pub complete_head : (m : List ℕ) (q : ℕ) → q < selects m → length (complete m q) ≤ 65535 → GoodHead m (complete m q)

@@ -2,18 +2,17 @@
 -- that is left, and its names lie in its texts. Assumes nothing.
 use Prim.Native.Nat.{ℕ, ◌+◌, ◌*◌, ◌≤◌, ◌<◌}
 use mathlib.Core.Path.{◌≡◌, refl}
-use mathlib.Core.Bool.{Bool, true, false, ◌&&◌, not}
-use mathlib.Core.Logic.Iff
+use mathlib.Core.Bool.{Bool, true, false}
 use mathlib.Core.List.{List}
 use native.Mathlib.Omega.{arith}
-use lib.Dec.{eqb, leb, ltb}
+use lib.Dec.{eqb, ltb}
 use lib.ListN.{length, drop, length-take, length-drop}
-use borrow.Author.Tests.{leb-true, ltb-true, ne_eqb}
-use Rattle.meaning.specs.declared.Outcome.TheVariants.{Clean, Fault}
-use Rattle.meaning.specs.Base.{pick, part, or_else}
-use Rattle.meaning.specs.Book.{symbols, nodes, texts, end_of, type_of, name_start, name_offset, name_length, spelled_name, prompt_of, depend_of, new_name, name_bytes, digits_alone, name_ok, symbol_ok, book_fault, WellFormed, name_place, name_place_in}
+use borrow.Author.Tests.{ltb-true, ne_eqb}
+use Rattle.std.proofs.lemmas.Bool.Decides.{nat_tests}
+use Rattle.meaning.specs.Base.{Clean, Fault, pick, part, or_else}
+use Rattle.meaning.specs.Book.{symbols, texts, end_of, name_start, name_offset, name_length, spelled_name, name_ok, symbol_ok, book_fault, WellFormed, name_place, name_place_in}
 use Rattle.meaning.specs.Rules.{verdict_in, node_work_in, verdict, node_work}
-use Rattle.demands.proofs.Bools.{says_and, pick-cases, denies_zero}
+use Rattle.demands.proofs.Bools.{pick-cases, denies_zero}
 use Rattle.demands.proofs.Refusals.{book_iff}
 
 -- THE TABLE CHECK. A book without fault: the check after it, and its node work. Another: the book's own fault, and the node work stays
@@ -37,18 +36,6 @@ module _ (m t : List ℕ) where
     work_of_bad_book w = rw fault
 
 -- THE NAME
-both : (a b : Bool) → a && b ≡ true → (a ≡ true) × (b ≡ true)
-both a b = (says_and {a = a} {b = b} Iff.rfl Iff.rfl).0
-
--- of five tests that all hold, the first three
-first_three : (a b c d e : Bool) → a && b && c && d && e ≡ true → (a ≡ true) × (b ≡ true) × (c ≡ true)
-first_three a b c d e h =
-    let four = both (a && b && c && d) e h in
-    let three = both (a && b && c) d four.0 in
-    let two = both (a && b) c three.0 in
-    let one = both a b two.0 in
-    (one.0, one.1, two.1)
-
 module _ (m : List ℕ) (s : ℕ) where
   -- a name's part, cut where the bytes end: no longer than its record says, and in them if it has a byte
   long : length (spelled_name m s) ≤ name_length m s
@@ -57,7 +44,7 @@ module _ (m : List ℕ) (s : ℕ) where
 
   cut : 0 < length (spelled_name m s) → name_start m s + length (spelled_name m s) ≤ length m
   unfolding part
-  cut h = omega (arith, h, length-take (name_length m s) (drop (name_start m s) m), length-drop (name_start m s) m)
+  cut h = omega (arith, length-take (name_length m s) (drop (name_start m s) m), length-drop (name_start m s) m)
 
 -- WHATEVER THE BYTES ARE, the part that is told lies in them, and is no longer than a byte counts
 pub record Inside (m : List ℕ) (s r : ℕ) : Type 0 where
@@ -92,13 +79,11 @@ module _ (m : List ℕ) (s : ℕ) where
   fits : WellFormed m → s < symbols m → (length (spelled_name m s) ≡ name_length m s) × (0 < name_length m s)
   unfolding symbol_ok name_ok end_of part
   fits w lt =
-      let named = (first_three (leb (type_of m s) 4) (name_ok m s) (new_name m s) (ltb (prompt_of m s) (nodes m)) (ltb (depend_of m s) (nodes m)) (w.symbol s lt)).1 in
+      let ok = w.symbol s lt in
       let n = name_length m s in
-      let inside =
-      first_three (leb 1 n) (leb n 64) (leb (name_offset m s + n) (texts m)) (name_bytes m (name_start m s) n) (not (digits_alone m (name_start m s) n)) named in
-      let some = leb-true 1 n inside.0 in
-      let ends = leb-true (name_offset m s + n) (texts m) inside.2 in
-      (omega (arith, w.ended, w.whole, ends, length-take n (drop (name_start m s) m), length-drop (name_start m s) m), omega (arith, some))
+      let some : 0 < n = grind (arith, nat_tests) in
+      let ends : name_offset m s + n ≤ texts m = grind (arith, nat_tests) in
+      (omega (arith, length-take n (drop (name_start m s) m), length-drop (name_start m s) m), some)
 
   pub name_in_turn : WellFormed m → name_place m s ≡ name_place_in m s
   unfolding name_place name_place_in
@@ -109,5 +94,5 @@ module _ (m : List ℕ) (s : ℕ) where
           → ltb s (symbols m) ≡ q
           → pick q (4294967296 * name_start m s + name_length m s) 0
           ≡ pick q (pick (eqb (length (spelled_name m s)) 0) 0 (4294967296 * name_start m s + length (spelled_name m s))) 0
-      same true e = let f = fits w (ltb-true s (symbols m) e) in rw (f.0, ne_eqb (name_length m s) 0 (λ z. omega (arith, z, f.1)))
+      same true e = let f = fits w (ltb-true s (symbols m) e) in rw (f.0, ne_eqb (name_length m s) 0 (λ z. omega arith))
       same false e = refl

@@ -2,16 +2,16 @@
 -- breaks is one whose leaf may stand there and is closed: 10, 14 and 16 cannot be broken. Assumes nothing.
 use Prim.Native.Nat.{ℕ, zero, suc, ◌≤◌, ◌<◌}
 use mathlib.Core.Path.{◌≡◌, refl, sym, ◌∙◌, ap}
-use mathlib.Core.Bool.{Bool, true, false, ◌&&◌, not, false≢true, and-eq-true_iff}
+use mathlib.Core.Bool.{Bool, true, false, ◌&&◌, not, and-eq-true_iff}
 use mathlib.Mathlib.Data.Bool.Basic.{and_elim_right}
 use mathlib.Core.List.{List}
 use native.Mathlib.Omega.{arith}
 use lib.Dec.{eqb, ltb}
 use lib.ListN.{length}
 use borrow.Author.Tests.{eqb-true, lt-ltb, eq-eqb, leb-true}
-use Rattle.meaning.specs.declared.Outcome.{Outcome}
-use Rattle.meaning.specs.declared.Outcome.TheVariants.{Clean, Fault}
-use Rattle.meaning.specs.Base.{when, or_else, first_below}
+use Rattle.std.proofs.lemmas.Bool.Decides.{nat_tests}
+use Rattle.std.specs.Prelude.{Ok, Err}
+use Rattle.meaning.specs.Base.{Outcome, Clean, Fault, when, or_else, first_below}
 use Rattle.meaning.specs.Book.{symbols, choices, type_of, choice_kind, choice_prompt, member_count, member_of, WellFormed}
 use Rattle.meaning.specs.Table.{a_three, content_of, value_of, table_fault}
 use Rattle.meaning.specs.Values.{val, node_values}
@@ -21,7 +21,7 @@ use Rattle.meaning.specs.Picks.{In}
 use Rattle.meaning.specs.Clearance.{leaf_stands, closed_on}
 use Rattle.meaning.specs.Findings.{table_of}
 use Rattle.demands.proofs.Bools.{not_both}
-use Rattle.demands.proofs.Lifts.{each_of, in_small, Is, is_lifts}
+use Rattle.demands.proofs.Lifts.{in_small, Is, is_lifts}
 use Rattle.demands.proofs.Relate.{node}
 use Rattle.demands.proofs.Counts.{some_counted}
 use Rattle.demands.proofs.Tables.{table_clean, table_content}
@@ -32,14 +32,13 @@ use Rattle.demands.proofs.ThreeModels.{all_three, no_free, no_range, boolean_mem
 -- a value of a boolean or tristate type fits it; of a boolean it is not m
 full-fits : (y v : ℕ) → y ≤ 1 → In (full y) v → type_fits y (a_three v) ≡ true
 unfolding full has
-full-fits zero v le h =
-    each_of (λ v. In 5 v → type_fits 0 (a_three v) ≡ true) (λ _. refl) (λ h. absurd (false≢true h)) (λ _. refl) v (in_small 5 v h) h
+full-fits zero v le h = grind (arith, nat_tests)
 full-fits (suc zero) v le h = refl
 full-fits (suc (suc y)) v le h = absurd (omega arith)
 
 full_not_m : (v : ℕ) → In (full 0) v → v ≡ 1 → ⊥
 unfolding full has
-full_not_m v h e = false≢true (rw e at h)
+full_not_m v h e = cc
 
 module _ (m : List ℕ) (q : ℕ) (wf : WellFormed m) (all : (s : ℕ) → s < symbols m → type_of m s ≤ 1) (vs ys : List ℕ)
     (size : length vs ≡ symbols m) (chosen : (i : ℕ) → Is (sat ys i) (val vs i))
@@ -76,13 +75,13 @@ module _ (m : List ℕ) (q : ℕ) (wf : WellFormed m) (all : (s : ℕ) → s < s
   Stands rule place = (leaf_stands m q rule place ≡ true) × (closed_on m q ys rule place ≡ true)
 
   abbrev pub Good : Outcome → Type 0
-  Good Clean = Unit {0}
-  Good (Fault rule place second) = Stands rule place
+  Good (Ok _) = Unit {0}
+  Good (Err f) = Stands f.number f.place
 
   good_or_else : (a b : Outcome) → Good a → Good b → Good (or_else a b)
   unfolding or_else
-  good_or_else Clean b g h = h
-  good_or_else (Fault n p e) b g h = g
+  good_or_else (Ok tt) b g h = h
+  good_or_else (Err f) b g h = g
 
   good_when : (c : Bool) (a : Outcome) → (c ≡ true → Good a) → Good (when c a)
   unfolding when

@@ -1,13 +1,14 @@
 -- What the operations on sets hold: exactly the values that picks from their parts give. Assumes nothing.
 use Prim.Native.Nat.{ℕ, zero, suc, ◌≤◌, ◌<◌}
 use mathlib.Core.Path.{◌≡◌, refl, sym, ◌∙◌, ap}
-use mathlib.Core.Bool.{Bool, true, false, ◌||◌, false≢true}
+use mathlib.Core.Bool.{Bool, true, false, ◌||◌}
 use mathlib.Mathlib.Data.Bool.Basic.{or_inl, or_inr}
 use mathlib.Core.Logic.{◌⊎◌, inl, inr, ⊎_elim}
 use native.Mathlib.Nat.{not-suc-le-zero, eq-or-lt_of_le, le_of_suc-le-suc}
 use native.Mathlib.Omega.{arith}
 use lib.Dec.{eqb, ltb}
-use borrow.Author.Tests.{eqb-true, eq-eqb, ne_eqb}
+use borrow.Author.Tests.{eqb-true, eq-eqb}
+use Rattle.std.proofs.lemmas.Bool.Decides.{nat_tests}
 use Rattle.meaning.specs.Base.{pick, fold}
 use Rattle.meaning.specs.Sets.{has, set_of, only, full, with_one, join, row, pairs, every, least, most, choose_set, open_sets}
 use Rattle.meaning.specs.Picks.{In}
@@ -29,9 +30,7 @@ unfolding has
 in_small a zero h = omega arith
 in_small a (suc zero) h = omega arith
 in_small a (suc (suc zero)) h = omega arith
-in_small a (suc (suc (suc v))) h =
-    let w = suc (suc (suc v)) in
-    absurd (false≢true (rw (ne_eqb w 0 (λ e. omega arith), ne_eqb w 1 (λ e. omega arith), ne_eqb w 2 (λ e. omega arith)) at h))
+in_small a (suc (suc (suc v))) h = grind (arith, nat_tests)
 
 bits : (a b c : Bool) → (has (set_of a b c) 0 ≡ a) × (has (set_of a b c) 1 ≡ b) × (has (set_of a b c) 2 ≡ c)
 unfolding has set_of
@@ -46,12 +45,12 @@ bits false false false = (refl, refl, refl)
 
 never : (v : ℕ) → In 0 v → ⊥
 unfolding has
-never v h = each_of (λ v. In 0 v → ⊥) false≢true false≢true false≢true v (in_small 0 v h) h
+never v h = grind (arith, nat_tests)
 
 -- each type allows n
 pub full_n : (y : ℕ) → In (full y) 0
 unfolding full has
-full_n y = pick_both (λ (a : ℕ). In a 0) (eqb y 0) refl (pick_both (λ (a : ℕ). In a 0) (eqb y 1) refl refl)
+full_n y = grind (arith, nat_tests)
 
 -- ONE VALUE ALONE
 pub only_in : (v : ℕ) → v < 3 → In (only v) v
@@ -60,13 +59,7 @@ only_in = each_of (λ v. In (only v) v) refl refl refl
 
 pub only_is : (v w : ℕ) → v < 3 → In (only v) w → w ≡ v
 unfolding open_sets
-only_is v w lt h =
-    let small = in_small (only v) w h in
-    each_of (λ v. In (only v) w → w ≡ v)
-    (each_of (λ w. In 1 w → w ≡ 0) (λ _. refl) (λ z. absurd (false≢true z)) (λ z. absurd (false≢true z)) w small)
-    (each_of (λ w. In 2 w → w ≡ 1) (λ z. absurd (false≢true z)) (λ _. refl) (λ z. absurd (false≢true z)) w small)
-    (each_of (λ w. In 4 w → w ≡ 2) (λ z. absurd (false≢true z)) (λ z. absurd (false≢true z)) (λ _. refl) w small)
-    v lt h
+only_is v w lt h = grind (arith, nat_tests)
 
 -- ONE MORE
 has_with : (a w v : ℕ) → v < 3 → has (with_one a w) v ≡ (has a v || eqb w v)
@@ -199,12 +192,7 @@ choose_from c a r z h = ⊎_elim (λ i. inl (above i)) (λ i. inr (none i)) (joi
 -- THE LEAST AND THE LARGEST value, against one that is in the set
 pub least_le : (a v : ℕ) → In a v → least a ≤ v
 unfolding least
-least_le a v h =
-    each_of (λ v. In a v → least a ≤ v)
-    (λ h. rw h (omega arith))
-    (λ h. rw h (pick_both (λ (x : ℕ). x ≤ 1) (has a 0) (omega arith) (omega arith)))
-    (λ h. pick_both (λ (x : ℕ). x ≤ 2) (has a 0) (omega arith) (pick_both (λ (x : ℕ). x ≤ 2) (has a 1) (omega arith) (omega arith)))
-    v (in_small a v h) h
+least_le a v h = grind (arith, nat_tests)
 
 pub le_most : (a v : ℕ) → In a v → v ≤ most a
 unfolding most

@@ -7,16 +7,14 @@ use mathlib.Core.List.{List}
 use native.Mathlib.Omega.{arith}
 use lib.Dec.{eqb}
 use lib.ListN.{length}
-use Rattle.meaning.specs.declared.Outcome.{Outcome}
-use Rattle.meaning.specs.declared.Outcome.TheVariants.{Fault}
-use Rattle.meaning.specs.declared.Walked.{Walked}
-use Rattle.meaning.specs.declared.Walked.TheVariants.{Next, Malformed, Open}
-use Rattle.meaning.specs.Base.{when, or_else, answer_of}
+use Rattle.std.specs.Prelude.{Ok, Err}
+use Rattle.meaning.specs.declared.Stop.TheVariants.{Malformed, Open}
+use Rattle.meaning.specs.Base.{Outcome, Fault, when, or_else, answer_of}
 use Rattle.meaning.specs.Book.{symbols, book_fault}
 use Rattle.meaning.specs.Table.{table_fault}
 use Rattle.meaning.specs.Rules.{rule_fault, unmet, node_room_fault, refusal_in, verdict_in, verdict}
 use Rattle.meaning.specs.Sets.{full_sets}
-use Rattle.meaning.specs.Clearance.{walk_of}
+use Rattle.meaning.specs.Clearance.{Walked, walk_of}
 use Rattle.meaning.specs.Findings.{select_of, finding_kind, head_fault, witness_table, witness_fault, walk_fault, clearance_fault, symbol_room_fault, finding_refusal, body_fault, finding_outcome}
 use Rattle.demands.specs.Broken.{Spot, typed, lower, upper, default, range, one, kind, mandatory, modules, rule_of}
 use Rattle.demands.specs.Refused.{Between, TableNumber, TableInNumber, FindingNumber}
@@ -36,14 +34,14 @@ pub entry_numbers : (t : List ℕ) (n : ℕ) → Numbers (Between 5 6) (table_fa
 entry_numbers t n =
     numbers_of (table_search t n)
     (λ k p s.
-    ⊎_elim (λ x. omega (arith, x.1))
-    (λ x. ⊎_elim (λ y. omega (arith, y.1)) (λ y. omega (arith, y.1.1)) x.1))
+    ⊎_elim (omega arith)
+    (λ x. ⊎_elim (λ y. omega arith) (λ y. omega arith) x.1))
 
 pub node_room_numbers : (m : List ℕ) (room : ℕ) → Numbers (Between 7 7) (node_room_fault m room)
-node_room_numbers m room = numbers_of (node_room_search m room) (λ n p s x. omega (arith, x.1))
+node_room_numbers m room = numbers_of (node_room_search m room) (λ n p s x. omega arith)
 
 pub symbol_room_numbers : (m : List ℕ) (room : ℕ) → Numbers (Between 8 8) (symbol_room_fault m room)
-symbol_room_numbers m room = numbers_of (symbol_room_search m room) (λ n p s x. omega (arith, x.1))
+symbol_room_numbers m room = numbers_of (symbol_room_search m room) (λ n p s x. omega arith)
 
 pub room_numbers : (m : List ℕ) (node_room symbol_room : ℕ) → Numbers (Between 7 8) (or_else (node_room_fault m node_room) (symbol_room_fault m symbol_room))
 room_numbers m node_room symbol_room =
@@ -51,7 +49,7 @@ room_numbers m node_room symbol_room =
     (numbers_wide (λ n x. omega arith) (symbol_room_numbers m symbol_room))
 
 pub head_numbers : (m f : List ℕ) → Numbers (Between 21 21) (head_fault m f)
-head_numbers m f = numbers_of (head_search m f) (λ n p s x. omega (arith, x.1))
+head_numbers m f = numbers_of (head_search m f) (λ n p s x. omega arith)
 
 rule_between : (x : Spot) → Between 10 18 (rule_of x)
 rule_between (typed s) = omega arith
@@ -88,7 +86,7 @@ module _ (m t : List ℕ) (room : ℕ) where
   unfolding verdict
   table_numbers =
       numbers_answer {P = TableNumber} (verdict m t room) (inl (omega arith))
-      (numbers_then _ _ (numbers_wide (λ n x. inl (omega (arith, x.1))) (book_numbers m))
+      (numbers_then _ _ (numbers_wide (λ n x. inl (omega arith)) (book_numbers m))
       (numbers_wide (λ n. ⊎_elim (λ x. inl x.1) (λ x. inr x)) verdict_in_numbers))
 
 -- THE FINDING CHECK: what a refusal, a witness, a clearance, and either body can answer
@@ -120,19 +118,19 @@ module _ (m f : List ℕ) where
 
   pub clearance_numbers : Numbers (Between 22 23) (clearance_fault m f)
   unfolding clearance_fault when
-  clearance_numbers = by (walk_of m (select_of f) f 64 (Next 4) (full_sets m))
+  clearance_numbers = by (walk_of m (select_of f) f 64 (Ok 4) (full_sets m))
     where
       by : (w : Walked) → Numbers (Between 22 23) (walk_fault f w)
-      by (Next at) = numbers_when (not (eqb at (length f))) 22 at 65535 (omega arith)
-      by (Malformed at) = numbers_when true 22 at 65535 (omega arith)
-      by (Open at) = numbers_when true 23 at 65535 (omega arith)
+      by (Ok at) = numbers_when (not (eqb at (length f))) 22 at 65535 (omega arith)
+      by (Err (Malformed at)) = numbers_when true 22 at 65535 (omega arith)
+      by (Err (Open at)) = numbers_when true 23 at 65535 (omega arith)
 
   pub body_numbers : Numbers OfBody (body_fault m f)
   unfolding body_fault
   body_numbers =
       pick_both (Numbers OfBody) (eqb (finding_kind f) 0)
-      (numbers_wide (λ n. ⊎_elim inl (⊎_elim (λ x. inr (inl x)) (λ x. inr (inr (omega (arith, x.0, x.1)))))) witness_numbers)
-      (numbers_wide (λ n x. inr (inr (omega (arith, x.0, x.1)))) clearance_numbers)
+      (numbers_wide (λ n. ⊎_elim inl (⊎_elim (λ x. inr (inl x)) (λ x. inr (inr (omega arith))))) witness_numbers)
+      (numbers_wide (λ n x. inr (inr (omega arith))) clearance_numbers)
 
   module _ (node_room symbol_room : ℕ) where
     pub behind_head_numbers :
@@ -153,11 +151,11 @@ finding_numbers m f node_room symbol_room =
     (numbers_then _ _ (numbers_wide refused (finding_refusal_numbers m f node_room symbol_room)) (numbers_wide judged (body_numbers m f)))
   where
     refused : (n : ℕ) → OfRefusal n → FindingNumber n
-    refused n (inl x) = inl (omega (arith, x.1))
-    refused n (inr (inl x)) = inl (omega (arith, x.1))
-    refused n (inr (inr x)) = inr (inr (omega (arith, x.0, x.1)))
+    refused n (inl x) = inl (omega arith)
+    refused n (inr (inl x)) = inl (omega arith)
+    refused n (inr (inr x)) = inr (inr (omega arith))
 
     judged : (n : ℕ) → OfBody n → FindingNumber n
-    judged n (inl x) = inl (omega (arith, x.1))
+    judged n (inl x) = inl (omega arith)
     judged n (inr (inl x)) = inr (inl x)
-    judged n (inr (inr x)) = inr (inr (omega (arith, x.0, x.1)))
+    judged n (inr (inr x)) = inr (inr (omega arith))

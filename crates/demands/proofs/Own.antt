@@ -3,9 +3,8 @@ use Prim.Native.Nat.{ℕ}
 use mathlib.Core.Path.{◌≡◌, refl}
 use mathlib.Core.Bool.{Bool, not}
 use mathlib.Core.List.{List}
-use Rattle.meaning.specs.declared.Outcome.{Outcome}
-use Rattle.meaning.specs.declared.Outcome.TheVariants.{Fault}
-use Rattle.meaning.specs.Base.{when, or_else}
+use borrow.Author.Rules.{rules}
+use Rattle.meaning.specs.Base.{Outcome, Fault, when, or_else}
 use Rattle.meaning.specs.Book.{prompt_of, depend_of, default_value, default_condition, selector_of, target_of, condition_of, choice_prompt, member_of, modules_of}
 use Rattle.meaning.specs.Table.{value_of}
 use Rattle.meaning.specs.Values.{val, node_values, lower_of, default_of}
@@ -34,19 +33,7 @@ module _ (m : List ℕ) (q : ℕ) (t : List ℕ) (place : ℕ) where
 
   pub own_allowed : (ys : List ℕ) → ((i : ℕ) → In (sat ys i) (value_of t i)) → ((i : ℕ) → In (sat (node_sets m ys) i) (val vs i))
       → Allowed m q ys (node_sets m ys) place own
-  own_allowed ys symbol node =
-      record {
-        own = symbol place;
-        member = λ j. symbol (member_of m place j);
-        modules = symbol (modules_of m);
-        prompt = node (prompt_of m place);
-        choice = node (choice_prompt m place);
-        depend = node (depend_of m (target_of m q));
-        selector = λ j. symbol (selector_of m j);
-        condition = λ j. node (condition_of m j);
-        value = λ d. node (default_value m d);
-        applies = λ d. node (default_condition m d);
-      }
+  own_allowed ys symbol node = search rules
 
   -- rule broken at its place, or for 20 the select not unmet, in the table
   abbrev pub Broken : ℕ → Bool

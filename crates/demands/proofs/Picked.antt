@@ -2,12 +2,14 @@
 -- that closing reads hold exactly what picks give. Assumes nothing.
 use Prim.Native.Nat.{ℕ, ◌≤◌}
 use mathlib.Core.Path.{◌≡◌, refl}
-use mathlib.Core.Bool.{Bool, true, false, ◌&&◌, not, false≢true, and-eq-true_iff}
+use mathlib.Core.Bool.{Bool, true, false, ◌&&◌, not, and-eq-true_iff}
 use mathlib.Core.Logic.{◌↔◌, ⊎_elim}
 use mathlib.Core.List.{List, []}
 use native.Mathlib.Omega.{arith}
-use lib.Dec.{eqb, leb, ltb}
-use borrow.Author.Tests.{leb-true, le-leb, eqb-true, eq-eqb, le-ltb}
+use lib.Dec.{eqb}
+use borrow.Author.Tests.{le-ltb}
+use Rattle.std.proofs.lemmas.Bool.Decides.{nat_tests}
+use Rattle.std.proofs.lemmas.Bool.{cases_lt}
 use Rattle.meaning.specs.Base.{pick, half}
 use Rattle.meaning.specs.Book.{symbols, type_of, selects, defaults, prompt_of, depend_of, default_value, default_condition, selector_of, target_of, condition_of, mandatory_of, choice_prompt, member_count, member_of, modules_of, modules_declared}
 use Rattle.meaning.specs.Table.{a_three, read_of, content_of, value_of}
@@ -21,7 +23,7 @@ use Rattle.demands.proofs.Lifts.{in_small, only_in, full_n, every_at, every_all,
 use Rattle.demands.proofs.Relate.{set_rel, node}
 use Rattle.demands.proofs.Tabulated.{full_at, full_past}
 use Rattle.demands.proofs.Exact.{Each, put, put_same, selectors, conditions, Lowered, lower_in, lower_from_lem, applied, values, Defaulted, default_in, default_from_lem}
-use Rattle.demands.proofs.Counts.{at_least_mono, below_or_past}
+use Rattle.demands.proofs.Counts.{at_least_mono}
 
 pick_imp : (c : Bool) {a a' b b' : Bool} → (a ≡ true → b ≡ true) → (a' ≡ true → b' ≡ true) → pick c a a' ≡ true → pick c b b' ≡ true
 pick_imp true f g h = f h
@@ -31,18 +33,12 @@ and_imp : (c : Bool) {a b : Bool} → (a ≡ true → b ≡ true) → (c && a) �
 and_imp true f h = f h
 and_imp false f h = h
 
-and_both : (a a' b b' : Bool) → (a ≡ true → a' ≡ true) → (b ≡ true → b' ≡ true) → (a && b) ≡ true → (a' && b') ≡ true
-and_both true a' b b' f g h = rw (f refl) (g h)
-and_both false a' b b' f g h = absurd (false≢true h)
-
 -- 15 stays broken where more members are above n, 17 where fewer are
 up15 : (p a b a' b' : ℕ) → a ≤ a' → b ≤ b' → broken15 p a b ≡ true → broken15 p a' b' ≡ true
-up15 p a b a' b' la lb =
-    and_both (ltb 0 p && leb 2 a) (ltb 0 p && leb 2 a') (leb 1 b) (leb 1 b')
-    (and_imp (ltb 0 p) (λ h. le-leb 2 a' (omega (arith, leb-true 2 a h)))) (λ h. le-leb 1 b' (omega (arith, leb-true 1 b h)))
+up15 p a b a' b' la lb h = grind (arith, nat_tests)
 
 down17 : (p o a a' : ℕ) → a' ≤ a → broken17 p o a ≡ true → broken17 p o a' ≡ true
-down17 p o a a' la = and_imp (ltb 0 p && eqb o 1) (λ h. eq-eqb a' 0 (omega (arith, eqb-true a 0 h)))
+down17 p o a a' la h = grind (arith, nat_tests)
 
 module _ (m : List ℕ) (q : ℕ) (ys ss : List ℕ) (place : ℕ) where
   module _ (k : Picks) (al : Allowed m q ys ss place k) where
@@ -255,7 +251,7 @@ whole_nonempty : (m : List ℕ) → NonEmptySets (full_sets m)
 unfolding has
 whole_nonempty m i = (
   0,
-  ⊎_elim (λ lt. rw (full_at m i lt) (full_n (type_of m i))) (λ le. rw (full_past m i le)) (below_or_past i (symbols m)),
+  ⊎_elim (λ lt. rw (full_at m i lt) (full_n (type_of m i))) (λ le. rw (full_past m i le)) (cases_lt i (symbols m)),
 )
 
 pub path_nonempty : (m ys : List ℕ) → Path m ys → NonEmptySets ys

@@ -2,18 +2,14 @@
 -- end within the table, so bodies that do not end at the total end before it. Assumes nothing.
 use Prim.Native.Nat.{ℕ, zero, suc, ◌+◌, ◌*◌, ◌≤◌}
 use mathlib.Core.Path.{◌≡◌, refl}
-use mathlib.Core.Bool.{◌&&◌}
-use mathlib.Mathlib.Data.Bool.Basic.{and_elim_left, and_elim_right}
 use mathlib.Core.Logic.Iff
 use mathlib.Core.Logic.{◌⊎◌, inl, inr, ◌↔◌, ⊎_elim}
 use mathlib.Core.List.{List}
 use native.Mathlib.Omega.{arith}
-use lib.Dec.{eqb, leb}
 use lib.ListN.{length}
-use borrow.Author.Tests.{leb-true}
-use Rattle.meaning.specs.declared.Outcome.TheVariants.{Clean, Fault}
-use Rattle.meaning.specs.Base.{half, first_below}
-use Rattle.meaning.specs.Table.{entries, kind_of, length_of, start_of, body_due, length_fits, entry_ok, contents_fault, entry_at, bodies_fault, table_fault, Readable}
+use Rattle.std.proofs.lemmas.Bool.Decides.{nat_tests}
+use Rattle.meaning.specs.Base.{Clean, Fault, half, first_below}
+use Rattle.meaning.specs.Table.{entries, body_due, entry_ok, contents_fault, entry_at, bodies_fault, table_fault, Readable}
 use Rattle.demands.specs.Broken.{Least}
 use Rattle.demands.specs.Refused.{BadContents, GoodContents, BadEntry, GoodEntries, BytesLeft}
 use Rattle.demands.proofs.Bools.{says_unlike, denies_unlike, says_or, says_not, denies_or, denies_not, says_lt, denies_lt, or_four}
@@ -29,7 +25,7 @@ module _ (t : List ℕ) (n : ℕ) where
       (Iff.trans (says_or (says_or (says_or (says_lt l 4) (says_unlike (half t 0) l)) (says_unlike (entries t) n)) (says_lt l due)) or_four)
       (Iff.trans
       (denies_or (denies_or (denies_or (denies_lt l 4) (denies_unlike (half t 0) l)) (denies_unlike (entries t) n)) (denies_lt l due))
-      (λ h. (h.1, h.0.0.1, h.0.1), λ h. (((omega (arith, h.0), h.1), h.2), h.0)))
+      (λ h. (h.1, h.0.0.1, h.0.1), λ h. (((omega arith, h.1), h.2), h.0)))
 
   entries_search : Search (first_below (entry_at t n) n) (GoodEntries t n) (λ k p s. Least (BadEntry t n) p × (k ≡ 6) × (s ≡ 65535))
   unfolding entry_at
@@ -46,11 +42,7 @@ module _ (t : List ℕ) (n : ℕ) where
   ends : (k : ℕ) → k ≤ n → GoodContents t n → GoodEntries t n → body_due t n k ≤ length t
   unfolding body_due entry_ok
   ends zero le c good = c.0
-  ends (suc s) le c good =
-      let fits = length_fits (kind_of t s) (length_of t s) in
-      let starts = eqb (start_of t s) (body_due t n s) in
-      let stops = leb (start_of t s + length_of t s) (length t) in
-      leb-true (start_of t s + length_of t s) (length t) (and_elim_right (fits && starts) _ (and_elim_left (fits && starts && stops) _ (good s le)))
+  ends (suc s) le c good = let ok = good s le in grind (arith, nat_tests)
 
   abbrev pub BadTable : ℕ → ℕ → ℕ → Type 0
   BadTable k p s =
@@ -88,7 +80,7 @@ module _ (t : List ℕ) (n : ℕ) where
               (λ h.
                   f.1
                   (⊎_elim inl
-                  (λ x. inr (x.0, ⊎_elim inl (λ y. inr (y.0, ((λ q. omega (arith, y.1.0)), y.1.1, y.1.2, y.1.3))) x.1))
+                  (λ x. inr (x.0, ⊎_elim inl (λ y. inr (y.0, ((λ q. omega arith), y.1.1, y.1.2, y.1.3))) x.1))
                   h)),
             );
       }
@@ -103,13 +95,13 @@ module _ (t : List ℕ) (n p s : ℕ) where
   table_fault_5 =
       Iff.trans ((table_search t n).fault 5 p s) (
         ⊎_elim (λ y. (inl y.0, y.2, y.3))
-            (λ y. ⊎_elim (λ z. absurd (omega (arith, z.1))) (λ z. (inr (y.0, z.0, z.1.0), z.1.2, z.1.3)) y.1),
+            (λ y. ⊎_elim (λ z. absurd (omega arith)) (λ z. (inr (y.0, z.0, z.1.0), z.1.2, z.1.3)) y.1),
         (λ x. ⊎_elim (λ y. inl (y, refl, x.1, x.2)) (λ y. inr (y.0, inr (y.1, (y.2, refl, x.1, x.2)))) x.0),
       )
 
   pub table_fault_6 : (table_fault t n ≡ Fault 6 p s) ↔ (GoodContents t n × Least (BadEntry t n) p × (s ≡ 65535))
   table_fault_6 =
       Iff.trans ((table_search t n).fault 6 p s) (
-        ⊎_elim (λ y. absurd (omega (arith, y.1))) (λ y. ⊎_elim (λ z. (y.0, z.0, z.2)) (λ z. absurd (omega (arith, z.1.1))) y.1),
+        ⊎_elim (λ y. absurd (omega arith)) (λ y. ⊎_elim (λ z. (y.0, z.0, z.2)) (λ z. absurd (omega arith)) y.1),
         (λ x. inr (x.0, inl (x.1, refl, x.2))),
       )

@@ -6,7 +6,7 @@ use mathlib.Core.Logic.Iff
 use mathlib.Core.Logic.{◌⊎◌, inl, inr, ◌↔◌, ⊎_elim}
 use mathlib.Core.List.{List}
 use native.Mathlib.Omega.{arith}
-use Rattle.meaning.specs.declared.Outcome.TheVariants.{Clean, Fault}
+use Rattle.meaning.specs.Base.{Clean, Fault}
 use Rattle.meaning.specs.Book.{symbols, nodes, modules_of, book_fault, WellFormed}
 use Rattle.meaning.specs.Table.{table_fault, Readable}
 use Rattle.meaning.specs.Rules.{refusal_in, verdict_in, verdict}
@@ -72,18 +72,18 @@ module _ (m t : List ℕ) (room : ℕ) where
     pub table_in_broken : 10 ≤ n → (verdict_in m t room ≡ Fault n p s) ↔ (Readable t (symbols m) × (nodes m ≤ room) × FirstBroken m t n p s)
     unfolding verdict_in
     table_in_broken l =
-        Iff.trans (fault_behind _ _ n p s (refusal_in_numbers m t room) (λ x. omega (arith, x.1)))
+        Iff.trans (fault_behind _ _ n p s (refusal_in_numbers m t room) (omega arith))
         (Iff.trans (Iff.and refusal_in_clean (first_broken m t n p s)) ((λ h. (h.0.0, h.0.1, h.1)), (λ h. ((h.0, h.1), h.2))))
 
     -- a number below 10 is the refusal's; below 7, the table's
     to_refusal_in : n < 10 → (verdict_in m t room ≡ Fault n p s) ↔ (refusal_in m t room ≡ Fault n p s)
     unfolding verdict_in
-    to_refusal_in l = fault_ahead _ _ n p s (rule_numbers m t) (λ x. omega (arith, x.0))
+    to_refusal_in l = fault_ahead _ _ n p s (rule_numbers m t) (omega arith)
 
     to_table : n < 7 → (verdict_in m t room ≡ Fault n p s) ↔ (table_fault t (symbols m) ≡ Fault n p s)
     unfolding refusal_in
     to_table l =
-        Iff.trans (to_refusal_in (omega arith)) (fault_ahead _ _ n p s (node_room_numbers m room) (λ x. omega (arith, x.0)))
+        Iff.trans (to_refusal_in (omega arith)) (fault_ahead _ _ n p s (node_room_numbers m room) (omega arith))
 
   module _ (p s : ℕ) where
     pub table_in_refused_5 :
@@ -101,7 +101,7 @@ module _ (m t : List ℕ) (room : ℕ) where
     unfolding refusal_in
     table_in_refused_7 =
         Iff.trans (to_refusal_in 7 p s (omega arith))
-        (Iff.trans (fault_behind _ _ 7 p s (entry_numbers t (symbols m)) (λ x. omega (arith, x.1)))
+        (Iff.trans (fault_behind _ _ 7 p s (entry_numbers t (symbols m)) (omega arith))
         (Iff.trans (Iff.and (readable_iff t (symbols m)) ((node_room_search m room).fault 7 p s)) (
           (λ x. (x.0, x.1.0, x.1.2, x.1.3)),
           (λ x. (x.0, (x.1, refl, x.2, x.3))),
@@ -124,12 +124,12 @@ module _ (m t : List ℕ) (room : ℕ) where
     pub table_refused_1_to_4 : n ≤ 4 → (verdict m t room ≡ Fault n p s) ↔ (book_fault m ≡ Fault n p s)
     unfolding verdict
     table_refused_1_to_4 l =
-        fault_ahead _ _ n p s (verdict_in_numbers m t room) (⊎_elim (λ x. omega (arith, x.0)) (λ x. omega (arith, x.0)))
+        fault_ahead _ _ n p s (verdict_in_numbers m t room) (⊎_elim (omega arith) (omega arith))
 
     behind_book : 4 < n → (verdict m t room ≡ Fault n p s) ↔ (WellFormed m × (verdict_in m t room ≡ Fault n p s))
     unfolding verdict
     behind_book l =
-        Iff.trans (fault_behind _ _ n p s (book_numbers m) (λ x. omega (arith, x.1))) (Iff.and (book_iff m) Iff.rfl)
+        Iff.trans (fault_behind _ _ n p s (book_numbers m) (omega arith)) (Iff.and (book_iff m) Iff.rfl)
 
     pub table_broken : 10 ≤ n
         → (verdict m t room ≡ Fault n p s) ↔ (WellFormed m × Readable t (symbols m) × (nodes m ≤ room) × FirstBroken m t n p s)

@@ -8,9 +8,10 @@ use mathlib.Core.List.{List, [], ◌∷◌, ◌++◌}
 use native.Mathlib.Omega.{arith}
 use lib.Dec.{eqb, leb}
 use lib.ListN.{set}
-use borrow.Author.Tests.{eqb-true, eqb-false, lt-leb, not-false}
+use borrow.Author.Tests.{eqb-true, lt-leb, not-false}
+use Rattle.std.proofs.lemmas.Bool.Decides.{nat_tests}
 use Rattle.tri.specs.Three.{tri_of, not_of, and_of, or_of}
-use Rattle.meaning.specs.Base.{pick, same_text, build}
+use Rattle.meaning.specs.Base.{pick, build}
 use Rattle.meaning.specs.Book.{nodes, three_type, op_of, left_of, right_of}
 use Rattle.meaning.specs.Table.{Content, a_three, content_of, three_in, value_of}
 use Rattle.meaning.specs.Spell.{spelled}
@@ -44,12 +45,7 @@ module _ (R : ℕ → ℕ → Type 0) where
 
 equal_small : (m : List ℕ) (l r x y : ℕ) → equal_at m l r x y < 3
 unfolding equal_at
-equal_small m l r x y = pick_both (λ (v : ℕ). v < 3) (same_text (spelled_at m l x) (spelled_at m r y)) (omega arith) (omega arith)
-
-above_one : (x : ℕ) → (x ≡ 0 → ⊥) → (x ≡ 1 → ⊥) → 1 < x
-above_one zero p q = absurd (p refl)
-above_one (suc zero) p q = absurd (q refl)
-above_one (suc (suc x)) p q = omega arith
+equal_small m l r x y = grind (arith, nat_tests)
 
 -- an equality, == or !=
 abbrev pub IsEquality : List ℕ → ℕ → Type 0
@@ -86,7 +82,7 @@ module _ (R : ℕ → ℕ → Type 0) (L : Lifts R) (m ys t : List ℕ)
           let one = eqb-true (op_of m i) 1 q in
           rw (one, fit (left_of m i) (not-false (three_type m (left_of m i)) (rw one at e)))
       by false false p q =
-          let above : 1 < op_of m i = above_one (op_of m i) (eqb-false _ 0 p) (eqb-false _ 1 q) in
+          let above : 1 < op_of m i = grind (arith, nat_tests) in
           rw (p, q, lt-leb (op_of m i) 1 above)
 
   module _ (i : ℕ) (lt : i < nodes m) (is : IsEquality m i) where
@@ -98,7 +94,7 @@ module _ (R : ℕ → ℕ → Type 0) (L : Lifts R) (m ys t : List ℕ)
 
     either : (is_free m l || is_free m r) ≡ true → R 5 (equal_value m t l r)
     unfolding equal_value
-    either e = other i lt is e (same_text (spelled (leaf_of m t l)) (spelled (leaf_of m t r)))
+    either e = grind (arith, nat_tests)
 
     equal : R (equal_set m ys l r) (equal_value m t l r)
     unfolding equal_set equal_value equal_at

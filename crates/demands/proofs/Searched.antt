@@ -29,8 +29,8 @@ module _ (m t : List ℕ) where
       (finds_one m t (default s) 65535 (each-default m t s three) (λ _. refl)))
   own_found s lt false e =
       let other : IsOther m t s = (lt, leb-false (type_of m s) 1 e) in
-      finds_kept m t (λ l i h. absurd (omega (arith, other.1, i.1)))
-      (finds_kept m t (λ l i h. absurd (omega (arith, other.1, i.1)))
+      finds_kept m t (λ l i h. absurd (omega arith))
+      (finds_kept m t (λ l i h. absurd (omega arith))
       (finds_one m t (default s) 65535 (each-content m t s other) (λ _. refl)))
 
   symbol_found : (s : ℕ) → s < symbols m → Finds m t (at_symbol m s) (symbol_fault m t vs s)

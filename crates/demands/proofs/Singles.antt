@@ -3,8 +3,9 @@ use Prim.Native.Nat.{ℕ}
 use mathlib.Core.Path.{◌≡◌, ◌∙◌}
 use mathlib.Core.Bool.{true}
 use mathlib.Core.List.{List}
+use borrow.Author.Rules.{rules}
 use Rattle.meaning.specs.Base.{count_below}
-use Rattle.meaning.specs.Book.{selects, defaults, prompt_of, depend_of, default_value, default_condition, selector_of, target_of, condition_of, choice_prompt, member_count, member_of, modules_of}
+use Rattle.meaning.specs.Book.{prompt_of, depend_of, selector_of, target_of, condition_of, choice_prompt, member_count, modules_of}
 use Rattle.meaning.specs.Table.{value_of}
 use Rattle.meaning.specs.Values.{val, node_values, lower_from, default_from}
 use Rattle.meaning.specs.Rules.{at_least}
@@ -12,7 +13,6 @@ use Rattle.meaning.specs.Sets.{sat, node_sets}
 use Rattle.meaning.specs.Clearance.{closed_on}
 use Rattle.meaning.specs.Picks.{Picks, Allowed, lower_picked, default_picked, broken_picked}
 use Rattle.demands.proofs.Lifts.{Is}
-use Rattle.demands.proofs.Exact.{fold_ext, low_ext, def_ext}
 use Rattle.demands.proofs.Own.{own, Broken}
 use Rattle.demands.proofs.Picked.{closed_iff}
 
@@ -27,19 +27,15 @@ module _ (m : List ℕ) (q : ℕ) (ys t : List ℕ) (symbol : (i : ℕ) → Is (
   module _ (k : Picks) (al : Allowed m q ys ss place k) where
     low_same : lower_picked m k place ≡ lower_picked m o place
     unfolding lower_picked lower_from
-    low_same =
-        low_ext m ys ss place k.selector k.condition o.selector o.condition (selects m)
-        (λ j _. (symbol (selector_of m j)).alone _ (al.selector j)) (λ j _. (node (condition_of m j)).alone _ (al.condition j))
+    low_same = search rules
 
     def_same : default_picked m k place ≡ default_picked m o place
     unfolding default_picked default_from
-    def_same =
-        def_ext m ys ss place k.applies k.value o.applies o.value (defaults m)
-        (λ d _. (node (default_condition m d)).alone _ (al.applies d)) (λ d _. (node (default_value m d)).alone _ (al.value d))
+    def_same = search rules
 
     some_same : (n : ℕ) → at_least k.member (member_count m place) n ≡ at_least o.member (member_count m place) n
     unfolding at_least count_below
-    some_same n = fold_ext _ _ 0 (member_count m place) (λ j x _. rw ((symbol (member_of m place j)).alone _ (al.member j)))
+    some_same n = search rules
 
     picked_own : (rule : ℕ) → broken_picked m q k rule place ≡ Broken m q t place rule
     unfolding broken_picked

@@ -2,13 +2,11 @@
 -- one leaf's path, and that leaf is closed; it is of no rule that the table breaks, so it is a 20. Assumes nothing.
 use Prim.Native.Nat.{ℕ, ◌<◌}
 use mathlib.Core.Path.{◌≡◌, refl, sym, ◌∙◌, subst}
-use mathlib.Core.Bool.{Bool, true, false, false≢true, and-eq-true_iff}
+use mathlib.Core.Bool.{Bool, true, false, and-eq-true_iff}
 use mathlib.Core.List.{List}
 use lib.Dec.{eqb, ltb}
 use borrow.Author.Tests.{eqb-true, ltb-true, not-true, not-false}
-use Rattle.meaning.specs.declared.Outcome.{Outcome}
-use Rattle.meaning.specs.declared.Outcome.TheVariants.{Clean, Fault}
-use Rattle.meaning.specs.Base.{when}
+use Rattle.meaning.specs.Base.{Outcome, Clean, Fault, when}
 use Rattle.meaning.specs.Book.{symbols, choices, type_of, three_type}
 use Rattle.meaning.specs.Table.{entries, content_of, value_of, table_fault}
 use Rattle.meaning.specs.Values.{val, yes_no, node_values}
@@ -101,7 +99,7 @@ module _ (m t : List ℕ) (readable : table_fault t (symbols m) ≡ Clean) (clea
           (λ _. pick-cases P (eqb rule 15) (λ e. not_both (in_choice (at_choice_lem (stands 15 e))).0)
           (λ _. pick-cases P (eqb rule 17) (λ e. not_both (in_choice (at_choice_lem (stands 17 e))).1)
           (λ _. pick-cases P (eqb rule 18) (λ e. not_both (in_modules (at_symbol_lem (stands 18 e)).0))
-          (λ _. pick-cases P (eqb rule 20) (λ e h. not-true (unmet m t q) (sym (own20 m q t place) ∙ h)) (λ _ h. absurd (false≢true h))))))))
+          (λ _. pick-cases P (eqb rule 20) (λ e h. not-true (unmet m t q) (sym (own20 m q t place) ∙ h)) (λ _ h. cc)))))))
         where
           P : Bool → Type 0
           P b = b ≡ true → unmet m t q ≡ false

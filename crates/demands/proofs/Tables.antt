@@ -9,13 +9,12 @@ use native.Mathlib.Omega.{arith}
 use lib.ListN.{length, get_or, length-append, get_or-eq_default}
 use lib.Seq.{get_or-drop}
 use borrow.Author.Tests.{le-leb, lt-ltb, eq-eqb}
-use Rattle.meaning.specs.declared.Outcome.TheVariants.{Clean}
-use Rattle.meaning.specs.Base.{half}
+use Rattle.std.proofs.lemmas.Bool.{cases_lt}
+use Rattle.meaning.specs.Base.{Clean, half}
 use Rattle.meaning.specs.Table.{a_three, entries, kind_of, length_of, start_of, body_due, length_fits, entry_ok, table_fault, read_of, content_of}
 use Rattle.meaning.specs.Values.{val}
 use Rattle.meaning.specs.Findings.{bytes_of, contents_of, table_of}
 use Rattle.demands.proofs.Bytes.{At, at_whole, at_read, at_skip, at_assoc, at_half}
-use Rattle.demands.proofs.Counts.{below_or_past}
 use Rattle.demands.proofs.Readable.{readable_iff}
 use Rattle.demands.proofs.Typed.{past_entries}
 
@@ -119,7 +118,7 @@ module _ (vs : List ℕ) where
     -- what stands at a symbol: its value; n past them
     pub table_content : (i : ℕ) → content_of f i ≡ a_three (val vs i)
     unfolding content_of read_of
-    table_content i = ⊎_elim within past (below_or_past i n)
+    table_content i = ⊎_elim within past (cases_lt i n)
       where
         within : i < n → content_of f i ≡ a_three (val vs i)
         within lt =

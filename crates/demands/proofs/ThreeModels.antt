@@ -2,14 +2,15 @@
 -- choice has boolean members: each record's own check says so. Assumes nothing.
 use Prim.Native.Nat.{ℕ, ◌≤◌, ◌<◌}
 use mathlib.Core.Path.{◌≡◌, refl}
-use mathlib.Core.Bool.{Bool, true, false, ◌&&◌, ◌||◌, not, and-eq-true_iff}
-use mathlib.Mathlib.Data.Bool.Basic.{and_elim_left, and_elim_right}
+use mathlib.Core.Bool.{Bool, true, false, ◌&&◌, ◌||◌, not}
+use mathlib.Mathlib.Data.Bool.Basic.{and_elim_left}
 use mathlib.Core.Logic.{⊎_elim}
 use mathlib.Core.List.{List}
 use native.Mathlib.Omega.{arith}
 use lib.Dec.{eqb, ltb}
-use borrow.Author.Tests.{eqb-true, ltb-true, leb-true, le-leb}
-use Rattle.meaning.specs.Book.{symbols, nodes, ranges, choices, type_of, three_type, op_of, left_of, right_of, zero_of, is_leaf, leaf_fits, node_fits, node_ok, range_symbol, choice_kind, member_count, member_of, member_ok, WellFormed}
+use borrow.Author.Tests.{eqb-true, ltb-true, le-leb}
+use Rattle.std.proofs.lemmas.Bool.Decides.{nat_tests}
+use Rattle.meaning.specs.Book.{symbols, nodes, ranges, choices, type_of, three_type, op_of, left_of, right_of, is_leaf, leaf_fits, node_fits, node_ok, range_symbol, choice_kind, member_count, member_of, member_ok, WellFormed}
 use Rattle.meaning.specs.Sets.{is_free}
 use Rattle.meaning.proofs.Tests.{or_cases}
 use Rattle.demands.proofs.ValidIff.{range-on}
@@ -21,7 +22,7 @@ module _ (m : List ℕ) (wf : WellFormed m) (all : (s : ℕ) → s < symbols m �
 
   fits : (i : ℕ) → i < nodes m → node_fits m i (op_of m i) (left_of m i) (right_of m i) ≡ true
   unfolding node_ok
-  fits i lt = and_elim_right (eqb (zero_of m i) 0) _ (wf.node i lt)
+  fits i lt = grind (arith, nat_tests)
 
   not_free : (i : ℕ) → i < nodes m → is_free m i ≡ false
   unfolding is_free node_fits leaf_fits
@@ -38,10 +39,8 @@ module _ (m : List ℕ) (wf : WellFormed m) (all : (s : ℕ) → s < symbols m �
   no_free i lt is =
       let leaves : (ltb l i && ltb r i && is_leaf m l && is_leaf m r) ≡ true =
       ⊎_elim (λ (e : op_of m i ≡ 8). rw e at (fits i lt)) (λ (e : op_of m i ≡ 9). rw e at (fits i lt)) is in
-      let a = and_elim_left (ltb l i && ltb r i && is_leaf m l) _ leaves in
-      let b = and_elim_left (ltb l i && ltb r i) _ a in
-      let c = (and-eq-true_iff (ltb l i) _).0 b in
-      rw (not_free l (omega (arith, ltb-true l i c.0)), not_free r (omega (arith, ltb-true r i c.1)))
+      let before : (l < i) × (r < i) = (grind (arith, nat_tests), grind (arith, nat_tests)) in
+      rw (not_free l (omega arith), not_free r (omega arith))
     where
       l : ℕ
       l = left_of m i
@@ -54,13 +53,9 @@ module _ (m : List ℕ) (wf : WellFormed m) (all : (s : ℕ) → s < symbols m �
       let y = type_of m (range_symbol m r) in
       let d = range-on m r (wf.range r lt) in
       let low = all (range_symbol m r) d.0 in
-      ⊎_elim (λ e. omega (arith, low, eqb-true y 3 e)) (λ e. omega (arith, low, eqb-true y 4 e)) (or_cases (eqb y 3) (eqb y 4) d.1)
+      ⊎_elim (λ e. omega (arith, eqb-true y 3 e)) (λ e. omega (arith, eqb-true y 4 e)) (or_cases (eqb y 3) (eqb y 4) d.1)
 
   pub boolean_member : (c j : ℕ) → c < choices m → j < member_count m c → choice_kind m c ≡ 0
       → (member_of m c j < symbols m) × (type_of m (member_of m c j) ≡ 0)
   unfolding member_ok
-  boolean_member c j lc lj kind =
-      let s = member_of m c j in
-      let a = and_elim_left _ _ (wf.member c j lc lj) in
-      let b = (and-eq-true_iff (ltb s (symbols m)) _).0 a in
-      (ltb-true s (symbols m) b.0, omega (arith, kind, leb-true (type_of m s) (choice_kind m c) b.1))
+  boolean_member c j lc lj kind = grind (arith, nat_tests)

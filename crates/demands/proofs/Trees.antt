@@ -7,7 +7,7 @@ use mathlib.Core.List.{List, [], ◌∷◌, ◌++◌}
 use native.Mathlib.Omega.{arith}
 use lib.ListN.{length, set}
 use borrow.Author.Tests.{le-leb}
-use Rattle.meaning.specs.declared.Walked.TheVariants.{Next}
+use Rattle.std.specs.Prelude.{Some, Ok}
 use Rattle.meaning.specs.declared.Head.TheVariants.{Leaf}
 use Rattle.meaning.specs.Sets.{sat}
 use Rattle.meaning.specs.Clearance.{leaf_stands, closed_on, leaf_head, split_head, head_of, walk_of}
@@ -16,25 +16,25 @@ use Rattle.demands.proofs.Bytes.{At, at_read, at_skip, at_assoc, at_half}
 module _ (m : List ℕ) (q : ℕ) (f : List ℕ) where
   -- what stands at an offset
   read_leaf : (ys : List ℕ) (at rule place : ℕ) (l : List ℕ) → At f at (1 ∷ rule ∷ place % 256 ∷ place / 256 ∷ l)
-      → leaf_stands m q rule place ≡ true → head_of m q f ys at ≡ Leaf rule place (at + 4)
+      → leaf_stands m q rule place ≡ true → head_of m q f ys at ≡ Some (Leaf rule place (at + 4))
   unfolding head_of leaf_head
   read_leaf ys at rule place l h ok =
       let h₁ = at_skip f at (1 ∷ []) _ h in
       let h₂ = at_skip f at (1 ∷ rule ∷ []) _ h in
-      let fits : at + 4 ≤ length f = omega (arith, h.ends) in
+      let fits : at + 4 ≤ length f = omega arith in
       rw (at_read f at 1 _ h, le-leb (at + 4) (length f) fits, at_read f (at + 1) rule _ h₁, at_half f (at + 2) place _ h₂, ok)
 
   read_split : (ys : List ℕ) (at s : ℕ) (l : List ℕ) → At f at (0 ∷ s % 256 ∷ s / 256 ∷ l) → head_of m q f ys at ≡ split_head (sat ys s) s (at + 3)
   unfolding head_of
   read_split ys at s l h =
       let h₁ = at_skip f at (0 ∷ []) _ h in
-      let fits : at + 3 ≤ length f = omega (arith, h.ends) in
+      let fits : at + 3 ≤ length f = omega arith in
       rw (at_read f at 0 _ h, le-leb (at + 3) (length f) fits, at_half f (at + 1) s _ h₁)
 
   -- the walk from `at`, with k splits left, goes on at `to`, and there stands the rest
   pub record Reached (k at : ℕ) (ys rest : List ℕ) : Type 0 where
     pub to : ℕ
-    pub walk : walk_of m q f k (Next at) ys ≡ Next to
+    pub walk : walk_of m q f k (Ok at) ys ≡ Ok to
     pub left : At f to rest
 
   -- so are the bytes of a tree, in the sets ys
@@ -51,7 +51,7 @@ module _ (m : List ℕ) (q : ℕ) (f : List ℕ) where
         left = at_skip f at (1 ∷ rule ∷ place % 256 ∷ place / 256 ∷ []) rest h;
       }
     where
-      by : (k : ℕ) → head_of m q f ys at ≡ Leaf rule place (at + 4) → walk_of m q f k (Next at) ys ≡ Next (at + 4)
+      by : (k : ℕ) → head_of m q f ys at ≡ Some (Leaf rule place (at + 4)) → walk_of m q f k (Ok at) ys ≡ Ok (at + 4)
       by zero e = rw (e, closed)
       by (suc k) e = rw (e, closed)
 

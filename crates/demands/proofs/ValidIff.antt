@@ -2,16 +2,16 @@
 -- places at once. A range that the book's check passed is on a symbol, so its symbol is listed. Assumes nothing.
 use Prim.Native.Nat.{ℕ, ◌<◌}
 use mathlib.Core.Path.{◌≡◌, refl}
-use mathlib.Core.Bool.{Bool, true, false, ◌||◌, and-eq-true_iff}
-use mathlib.Mathlib.Data.Bool.Basic.{and_elim_left}
+use mathlib.Core.Bool.{true, ◌||◌}
 use mathlib.Core.Logic.Iff
 use mathlib.Core.Logic.{◌⊎◌, inl, inr, ◌↔◌, ◌≢◌, ⊎_elim}
 use mathlib.Core.List.{List, [], ◌∷◌}
 use native.Mathlib.Omega.{arith}
-use lib.Dec.{eqb, ltb}
-use borrow.Author.Tests.{eqb-true, eqb-false, ltb-true, ltb-false}
-use Rattle.meaning.specs.declared.Outcome.{Outcome}
-use Rattle.meaning.specs.declared.Outcome.TheVariants.{Clean, Fault}
+use lib.Dec.{eqb}
+use Rattle.std.proofs.lemmas.Bool.Decides.{nat_tests}
+use Rattle.std.specs.Prelude.{Ok, Err}
+use Rattle.std.proofs.lemmas.Bool.{cases_lt, cases_eq}
+use Rattle.meaning.specs.Base.{Outcome, Clean}
 use Rattle.meaning.specs.Book.{symbols, ranges, choices, type_of, range_symbol, modules_of, range_ok, WellFormed}
 use Rattle.meaning.specs.Table.{value_of}
 use Rattle.meaning.specs.Rules.{rule_fault}
@@ -25,9 +25,9 @@ pub clean_holds : (m t : List ℕ) → (rule_fault m t ≡ Clean) ↔ All (Holds
 clean_holds m t = ((rules_found m t).clean, λ all. by (rule_fault m t) refl all)
   where
     by : (o : Outcome) → rule_fault m t ≡ o → All (Holds m t) (listed m) → o ≡ Clean
-    by Clean e all = refl
-    by (Fault n p s) e all =
-        let x = (rules_found m t).fault n p s e in
+    by (Ok tt) e all = refl
+    by (Err f) e all =
+        let x = (rules_found m t).fault f.number f.place f.second e in
         absurd (first_none (Holds m t) (listed m) x.0 all x.1)
 
 -- the list, place by place
@@ -87,18 +87,12 @@ module _ (m t : List ℕ) where
   all_modules :
       ((s : ℕ) → s < symbols m → Holds m t (modules s))
       → (modules_of m ≡ 65535) ⊎ ((0 < value_of t (modules_of m)) ⊎ ((s : ℕ) → s < symbols m → value_of t s ≢ 1))
-  all_modules h = by (eqb (modules_of m) 65535) (ltb 0 (value_of t (modules_of m))) refl refl
-    where
-      by : (a b : Bool) → eqb (modules_of m) 65535 ≡ a → ltb 0 (value_of t (modules_of m)) ≡ b
-          → (modules_of m ≡ 65535) ⊎ ((0 < value_of t (modules_of m)) ⊎ ((s : ℕ) → s < symbols m → value_of t s ≢ 1))
-      by true b e f = inl (eqb-true (modules_of m) 65535 e)
-      by false true e f = inr (inl (ltb-true 0 (value_of t (modules_of m)) f))
-      by false false e f =
-          inr
-          (inr
-          (λ s l.
-          ⊎_elim (λ z. absurd (eqb-false (modules_of m) 65535 e z))
-          (⊎_elim (λ p. absurd (omega (arith, p, ltb-false 0 (value_of t (modules_of m)) f))) (λ n. n)) (h s l)))
+  all_modules h =
+      ⊎_elim inl
+      (λ none. ⊎_elim (λ p. inr (inl p))
+      (λ n. inr (inr (λ s l. ⊎_elim (λ z. absurd (none z)) (⊎_elim (λ p. absurd (omega arith)) (λ k. k)) (h s l))))
+      (cases_lt 0 (value_of t (modules_of m))))
+      (cases_eq (modules_of m) 65535)
 
   valid_everywhere : ((r : ℕ) → r < ranges m → range_symbol m r < symbols m) → Valid m t ↔ Everywhere (Holds m t) m
   valid_everywhere on = (
@@ -133,9 +127,7 @@ module _ (m t : List ℕ) where
 pub range-on : (m : List ℕ) (r : ℕ) → range_ok m r ≡ true
     → (range_symbol m r < symbols m) × ((eqb (type_of m (range_symbol m r)) 3 || eqb (type_of m (range_symbol m r)) 4) ≡ true)
 unfolding range_ok
-range-on m r e =
-    let h = (and-eq-true_iff (ltb (range_symbol m r) (symbols m)) _).0 (and_elim_left _ _ (and_elim_left _ _ (and_elim_left _ _ e))) in
-    (ltb-true (range_symbol m r) (symbols m) h.0, h.1)
+range-on m r e = grind (arith, nat_tests)
 
 -- VALID, rule by rule and place by place
 pub valid_holds : (m t : List ℕ) → WellFormed m → Valid m t ↔ All (Holds m t) (listed m)

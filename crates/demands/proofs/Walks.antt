@@ -1,25 +1,21 @@
 -- The walk goes through exactly where a tree stands whose leaves are closed; and what each closed leaf says of the values in its sets, such a
 -- tree says of all values in the sets that it began with, since a split leaves no value out. Assumes nothing.
-use Prim.Native.Nat.{ℕ, zero, suc, ◌+◌}
+use Prim.Native.Nat.{ℕ, zero, suc}
 use mathlib.Core.Path.{◌≡◌, refl, ◌∙◌, ap, subst}
-use mathlib.Core.Bool.{true, ◌&&◌, false≢true}
+use mathlib.Core.Bool.{true}
 use mathlib.Core.Logic.{◌⊎◌, inl, inr, ◌↔◌, ⊎_elim}
 use mathlib.Core.List.{List}
-use native.Mathlib.Omega.{arith}
-use lib.Dec.{eqb, leb}
-use lib.ListN.{length, get_or, set}
-use borrow.Author.Tests.{eqb-true}
-use Rattle.meaning.specs.declared.Outcome.TheVariants.{Clean}
-use Rattle.meaning.specs.declared.Walked.{Walked}
-use Rattle.meaning.specs.declared.Walked.TheVariants.{Next, Malformed, Open}
+use lib.ListN.{length, set}
+use borrow.Author.Rules.{rules}
+use Rattle.std.specs.Prelude.{Option, Some, None, Ok, Err}
+use Rattle.meaning.specs.declared.Stop.TheVariants.{Malformed, Open}
 use Rattle.meaning.specs.declared.Head.{Head}
-use Rattle.meaning.specs.declared.Head.TheVariants.{Bad, Leaf, Two, Three}
-use Rattle.meaning.specs.Base.{half}
+use Rattle.meaning.specs.declared.Head.TheVariants.{Leaf, Two, Three}
+use Rattle.meaning.specs.Base.{Clean}
 use Rattle.meaning.specs.Sets.{has, only, sat, full_sets}
 use Rattle.meaning.specs.Picks.{In, Closed}
-use Rattle.meaning.specs.Clearance.{closed_on, leaf_stands, leaf_head, split_head, head_of, on_head, walk_of}
+use Rattle.meaning.specs.Clearance.{Walked, closed_on, leaf_stands, leaf_head, split_head, head_of, on_head, walk_of}
 use Rattle.meaning.specs.Findings.{select_of, walk_fault, clearance_fault}
-use Rattle.meaning.proofs.First.{a_fault}
 use Rattle.demands.specs.Paths.{Path, whole, split, ClosedTree, leaf, two, three}
 use Rattle.demands.proofs.Bools.{pick-cases, denies_unlike}
 use Rattle.demands.proofs.Faults.{clean_when}
@@ -27,47 +23,26 @@ use Rattle.demands.proofs.Lifts.{each_of, in_small, only_in}
 use Rattle.demands.proofs.Relate.{set_rel}
 use Rattle.demands.proofs.Picked.{path_closed_iff}
 
-not_malformed : (a e : ℕ) → Malformed a ≡ Next e → ⊥
-not_malformed a e h = let z : ◌≡◌ {A = ℕ} 0 1 = cc in omega arith
-
-not_open : (a e : ℕ) → Open a ≡ Next e → ⊥
-not_open a e h = let z : ◌≡◌ {A = ℕ} 0 1 = cc in omega arith
-
-same_next : (a e : ℕ) → Next a ≡ Next e → a ≡ e
-same_next a e h = ap offset h
-  where
-    offset : Walked → ℕ
-    offset (Next at) = at
-    offset (Malformed at) = at
-    offset (Open at) = at
-
 in_two : (v : ℕ) → In 5 v → (0 ≡ v) ⊎ (2 ≡ v)
 unfolding has
-in_two v h = each_of (λ v. In 5 v → (0 ≡ v) ⊎ (2 ≡ v)) (λ _. inl refl) (λ h. absurd (false≢true h)) (λ _. inr refl) v (in_small 5 v h) h
+in_two v h = search rules
 
 in_three : (v : ℕ) → In 7 v → (0 ≡ v) ⊎ ((1 ≡ v) ⊎ (2 ≡ v))
 in_three v h = each_of (λ v. (0 ≡ v) ⊎ ((1 ≡ v) ⊎ (2 ≡ v))) (inl refl) (inr (inl refl)) (inr (inr refl)) v (in_small 7 v h)
 
 module _ (m : List ℕ) (q : ℕ) (f : List ℕ) where
   -- what a head that is read tells
-  abbrev HeadOk : List ℕ → Head → Type 0
-  HeadOk ys Bad = Unit {0}
-  HeadOk ys (Leaf rule place next) = leaf_stands m q rule place ≡ true
-  HeadOk ys (Two s next) = sat ys s ≡ 5
-  HeadOk ys (Three s next) = sat ys s ≡ 7
+  abbrev HeadOk : List ℕ → Option Head → Type 0
+  HeadOk ys None = Unit {0}
+  HeadOk ys (Some (Leaf rule place next)) = leaf_stands m q rule place ≡ true
+  HeadOk ys (Some (Two s next)) = sat ys s ≡ 5
+  HeadOk ys (Some (Three s next)) = sat ys s ≡ 7
 
   head_ok : (ys : List ℕ) (at : ℕ) → HeadOk ys (head_of m q f ys at)
   unfolding head_of leaf_head split_head
-  head_ok ys at =
-      let s = half f (at + 1) in
-      pick-cases (HeadOk ys) (eqb (get_or f at 0) 1 && leb (at + 4) (length f))
-      (λ _. pick-cases (HeadOk ys) (leaf_stands m q (get_or f (at + 1) 0) (half f (at + 2))) (λ e. e) (λ _. tt))
-      (λ _. pick-cases (HeadOk ys) (eqb (get_or f at 0) 0 && leb (at + 3) (length f))
-      (λ _. pick-cases (HeadOk ys) (eqb (sat ys s) 5) (λ e. eqb-true _ 5 e)
-      (λ _. pick-cases (HeadOk ys) (eqb (sat ys s) 7) (λ e. eqb-true _ 7 e) (λ _. tt)))
-      (λ _. tt))
+  head_ok ys at = search rules
 
-  read_ok : (ys : List ℕ) (at : ℕ) {h : Head} → head_of m q f ys at ≡ h → HeadOk ys h
+  read_ok : (ys : List ℕ) (at : ℕ) {h : Option Head} → head_of m q f ys at ≡ h → HeadOk ys h
   read_ok ys at e = subst (HeadOk ys) e (head_ok ys at)
 
   -- the path into a branch
@@ -82,52 +57,50 @@ module _ (m : List ℕ) (q : ℕ) (f : List ℕ) where
 
   -- A WALK that goes through has a tree
   -- it came from one that did, and went on from there
-  came : (k : ℕ) (from : Walked) (ys : List ℕ) (e : ℕ) → walk_of m q f k from ys ≡ Next e
-      → (a : ℕ) × (from ≡ Next a) × (walk_of m q f k (Next a) ys ≡ Next e)
+  came : (k : ℕ) (from : Walked) (ys : List ℕ) (e : ℕ) → walk_of m q f k from ys ≡ Ok e
+      → (a : ℕ) × (from ≡ Ok a) × (walk_of m q f k (Ok a) ys ≡ Ok e)
   unfolding walk_of
-  came k (Next a) ys e h = (a, refl, h)
-  came zero (Malformed a) ys e h = absurd (not_malformed a e h)
-  came (suc k) (Malformed a) ys e h = absurd (not_malformed a e h)
-  came zero (Open a) ys e h = absurd (not_open a e h)
-  came (suc k) (Open a) ys e h = absurd (not_open a e h)
+  came k (Ok a) ys e h = (a, refl, h)
+  came zero (Err o) ys e h = cc
+  came (suc k) (Err o) ys e h = cc
 
-  leaf_tree : (k : ℕ) (ys : List ℕ) (at to rule place next : ℕ) → head_of m q f ys at ≡ Leaf rule place next
-      → on_head m q (λ w zs. w) ys at (Leaf rule place next) ≡ Next to → Path m ys → ClosedTree m q f k ys at to
+  leaf_tree : (k : ℕ) (ys : List ℕ) (at to rule place next : ℕ) → head_of m q f ys at ≡ Some (Leaf rule place next)
+      → on_head m q (λ w zs. w) ys at (Some (Leaf rule place next)) ≡ Ok to → Path m ys → ClosedTree m q f k ys at to
   leaf_tree k ys at to rule place next e r p =
-      pick-cases (λ (x : Walked). x ≡ Next to → ClosedTree m q f k ys at to) (closed_on m q ys rule place)
-      (λ c z. subst (ClosedTree m q f k ys at) (same_next next to z) (leaf rule place next e ((path_closed_iff m q ys rule place p).0 c)))
-      (λ _ z. absurd (not_open at to z)) r
+      pick-cases (λ (x : Walked). x ≡ Ok to → ClosedTree m q f k ys at to) (closed_on m q ys rule place)
+      (λ c z. let same : next ≡ to = cc in subst (ClosedTree m q f k ys at) same (leaf rule place next e ((path_closed_iff m q ys rule place p).0 c)))
+      (λ _ z. cc) r
 
-  last_tree : (ys : List ℕ) (at to : ℕ) (h : Head) → head_of m q f ys at ≡ h → on_head m q (λ w zs. Malformed at) ys at h ≡ Next to → Path m ys
+  last_tree : (ys : List ℕ) (at to : ℕ) (h : Option Head) → head_of m q f ys at ≡ h → on_head m q (λ w zs. Err (Malformed at)) ys at h ≡ Ok to → Path m ys
       → ClosedTree m q f zero ys at to
-  last_tree ys at to Bad e r p = absurd (not_malformed at to r)
-  last_tree ys at to (Leaf rule place next) e r p = leaf_tree zero ys at to rule place next e r p
-  last_tree ys at to (Two s next) e r p = absurd (not_malformed at to r)
-  last_tree ys at to (Three s next) e r p = absurd (not_malformed at to r)
+  last_tree ys at to None e r p = cc
+  last_tree ys at to (Some (Leaf rule place next)) e r p = leaf_tree zero ys at to rule place next e r p
+  last_tree ys at to (Some (Two s next)) e r p = cc
+  last_tree ys at to (Some (Three s next)) e r p = cc
 
-  more_tree : (k : ℕ) → ((ys : List ℕ) (at to : ℕ) → walk_of m q f k (Next at) ys ≡ Next to → Path m ys → ClosedTree m q f k ys at to)
-      → (ys : List ℕ) (at to : ℕ) (h : Head) → head_of m q f ys at ≡ h → on_head m q (walk_of m q f k) ys at h ≡ Next to → Path m ys
+  more_tree : (k : ℕ) → ((ys : List ℕ) (at to : ℕ) → walk_of m q f k (Ok at) ys ≡ Ok to → Path m ys → ClosedTree m q f k ys at to)
+      → (ys : List ℕ) (at to : ℕ) (h : Option Head) → head_of m q f ys at ≡ h → on_head m q (walk_of m q f k) ys at h ≡ Ok to → Path m ys
       → ClosedTree m q f (suc k) ys at to
   unfolding only
-  more_tree k below ys at to Bad e r p = absurd (not_malformed at to r)
-  more_tree k below ys at to (Leaf rule place next) e r p = leaf_tree (suc k) ys at to rule place next e r p
-  more_tree k below ys at to (Two s next) e r p =
+  more_tree k below ys at to None e r p = cc
+  more_tree k below ys at to (Some (Leaf rule place next)) e r p = leaf_tree (suc k) ys at to rule place next e r p
+  more_tree k below ys at to (Some (Two s next)) e r p =
       let c = came k _ _ to r in
       let i = into_two ys s (read_ok ys at e) p in
       two s next c.0 to e (below _ _ _ c.1 i.0) (below _ _ _ c.2 i.1)
-  more_tree k below ys at to (Three s next) e r p =
+  more_tree k below ys at to (Some (Three s next)) e r p =
       let d = came k _ _ to r in
       let c = came k _ _ d.0 d.1 in
       let i = into_three ys s (read_ok ys at e) p in
       three s next c.0 d.0 to e (below _ _ _ c.1 i.0) (below _ _ _ c.2 i.1) (below _ _ _ d.2 i.2)
 
-  walk_tree : (k : ℕ) (ys : List ℕ) (at to : ℕ) → walk_of m q f k (Next at) ys ≡ Next to → Path m ys → ClosedTree m q f k ys at to
+  walk_tree : (k : ℕ) (ys : List ℕ) (at to : ℕ) → walk_of m q f k (Ok at) ys ≡ Ok to → Path m ys → ClosedTree m q f k ys at to
   unfolding walk_of
   walk_tree zero ys at to r p = last_tree ys at to (head_of m q f ys at) refl r p
   walk_tree (suc k) ys at to r p = more_tree k (walk_tree k) ys at to (head_of m q f ys at) refl r p
 
   -- and a tree is walked through
-  tree_walk : {k : ℕ} {ys : List ℕ} {at to : ℕ} → ClosedTree m q f k ys at to → Path m ys → walk_of m q f k (Next at) ys ≡ Next to
+  tree_walk : {k : ℕ} {ys : List ℕ} {at to : ℕ} → ClosedTree m q f k ys at to → Path m ys → walk_of m q f k (Ok at) ys ≡ Ok to
   unfolding walk_of only
   tree_walk {k = zero} {ys = ys} (leaf rule place next e c) p = rw (e, (path_closed_iff m q ys rule place p).1 c)
   tree_walk {k = suc k} {ys = ys} (leaf rule place next e c) p = rw (e, (path_closed_iff m q ys rule place p).1 c)
@@ -161,15 +134,15 @@ module _ (m : List ℕ) (q : ℕ) (f : List ℕ) where
 pub clearance_iff : (m f : List ℕ) → (clearance_fault m f ≡ Clean) ↔ ClosedTree m (select_of f) f 64 (full_sets m) 4 (length f)
 unfolding clearance_fault
 clearance_iff m f = (
-  by (walk_of m (select_of f) f 64 (Next 4) (full_sets m)) refl,
+  by (walk_of m (select_of f) f 64 (Ok 4) (full_sets m)) refl,
   (λ t. rw (tree_walk m (select_of f) f t whole) ((ended (length f)).1 refl)),
 )
   where
-    ended : (at : ℕ) → (walk_fault f (Next at) ≡ Clean) ↔ (at ≡ length f)
+    ended : (at : ℕ) → (walk_fault f (Ok at) ≡ Clean) ↔ (at ≡ length f)
     ended at = clean_when 22 at 65535 (denies_unlike at (length f))
 
-    by : (w : Walked) → walk_of m (select_of f) f 64 (Next 4) (full_sets m) ≡ w → walk_fault f w ≡ Clean
+    by : (w : Walked) → walk_of m (select_of f) f 64 (Ok 4) (full_sets m) ≡ w → walk_fault f w ≡ Clean
         → ClosedTree m (select_of f) f 64 (full_sets m) 4 (length f)
-    by (Next to) e c = walk_tree m (select_of f) f 64 (full_sets m) 4 (length f) (e ∙ ap Next ((ended to).0 c)) whole
-    by (Malformed at) e c = absurd (a_fault 22 at 65535 c)
-    by (Open at) e c = absurd (a_fault 23 at 65535 c)
+    by (Ok to) e c = walk_tree m (select_of f) f 64 (full_sets m) 4 (length f) (e ∙ ap Ok ((ended to).0 c)) whole
+    by (Err (Malformed at)) e c = cc
+    by (Err (Open at)) e c = cc

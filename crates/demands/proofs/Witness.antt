@@ -4,7 +4,7 @@ use Prim.Native.Nat.{ℕ}
 use mathlib.Core.Path.{◌≡◌}
 use mathlib.Core.Logic.{◌↔◌}
 use mathlib.Core.List.{List}
-use Rattle.meaning.specs.declared.Outcome.TheVariants.{Clean}
+use Rattle.meaning.specs.Base.{Clean}
 use Rattle.meaning.specs.Book.{symbols, depend_of, target_of, WellFormed}
 use Rattle.meaning.specs.Table.{Readable}
 use Rattle.meaning.specs.Rules.{unmet_in, unmet}
