@@ -1,15 +1,15 @@
 -- The first fault in order: what `first_below` and `or_else` say of each place, and what a loop that looks for it shows at each turn. Assumes nothing.
 use Prim.Native.Nat.{ℕ, zero, suc, ◌+◌, ◌≤◌, ◌<◌}
 use mathlib.Core.Path.{◌≡◌, refl, sym, ◌∙◌, ap, subst}
-use mathlib.Core.Bool.{Bool, true, false, true≢false}
+use mathlib.Core.Bool.{Bool, true, false, true≢false, false≢true}
 use mathlib.Core.Logic.{◌⊎◌, inl, inr, ◌↔◌, ⊎_elim}
 use native.Mathlib.Nat.{not-suc-le-zero, eq-or-lt_of_le, le_of_suc-le-suc}
 use native.Mathlib.Omega.{arith}
 use native.Mathlib.Numerals.{add-one}
 use Rattle.std.specs.Bool.{then_some}
-use Rattle.std.specs.Prelude.{Some, None, Ok, Err}
+use Rattle.std.specs.Prelude.{Some, None, Ok, Err, is_err}
 use Rattle.meaning.specs.declared.Answer.{Answer}
-use Rattle.meaning.specs.Base.{Outcome, Clean, Fault, pick, when, or_else, first_below}
+use Rattle.meaning.specs.Base.{Outcome, Clean, Fault, pick, if_clean, when, or_else, first_below}
 
 abbrev pub IsClean : Outcome → Type 0
 IsClean a = a ≡ Clean
@@ -172,3 +172,12 @@ when_false b a e = rw e
 pub then_picked : {A : Type 0} (b : Bool) (a : A) → then_some b a ≡ pick b (Some a) None
 then_picked true a = refl
 then_picked false a = refl
+
+-- what the library's test of an outcome says
+pub no_err : (o : Outcome) → is_err o ≡ false → IsClean o
+no_err (Ok tt) h = refl
+no_err (Err f) h = absurd (true≢false h)
+
+pub if_err : {A : Type 0} (o : Outcome) (a b : A) → is_err o ≡ true → b ≡ if_clean o a b
+if_err (Ok tt) a b h = absurd (false≢true h)
+if_err (Err f) a b h = refl

@@ -4,33 +4,25 @@ use mathlib.Core.List.{List}
 use Prim.Native.Nat.{ℕ, ◌+◌, ◌*◌, ◌≤◌, ◌<◌}
 use lib.ListN.{length}
 use borrow.Author.Tests.{lt-ltb, le-ltb, eq-eqb, ne_eqb}
-use Rattle.meaning.specs.Base.{Outcome}
-use Rattle.meaning.specs.Base.{Clean, Fault}
+use mathlib.Core.Bool.{true, false}
+use Rattle.std.specs.Prelude.{is_err}
+use lib.Dec.{ltb}
+use Rattle.meaning.specs.Base.{Outcome, pick}
+use Rattle.meaning.proofs.First.{no_err, if_err}
 use Rattle.meaning.specs.Book.{symbols, name_start, name_length, spelled_name, book_fault, name_place, name_place_in}
 
 module _ (m : List ℕ) (s : ℕ) {r : Outcome} (er : r ≡ book_fault m) where
   pub place_bad : is_err r ≡ true → 0 ≡ name_place m s
   unfolding name_place
-  place_bad h = by r (sym er) h
-    where
-      by : (o : Outcome) → book_fault m ≡ o → is_err o ≡ true → 0 ≡ name_place m s
-      by (Ok _) e h = absurd (false≢true h)
-      by (Err x) e h = rw e
-
-  good : is_err r ≡ false → book_fault m ≡ Clean
-  good h = by r (sym er) h
-    where
-      by : (o : Outcome) → book_fault m ≡ o → is_err o ≡ false → book_fault m ≡ Clean
-      by (Ok tt) e h = e
-      by (Err x) e h = absurd (true≢false h)
+  place_bad h = rw er at (if_err r (pick (ltb s (symbols m)) (4294967296 * name_start m s + name_length m s) 0) 0 h)
 
   pub place_past : {c : ℕ} → is_err r ≡ false → c ≡ symbols m → c ≤ s → 0 ≡ name_place m s
   unfolding name_place
-  place_past {c} f e le = rw (good f, ← e, le-ltb s c le)
+  place_past {c} f e le = rw (← er, no_err r f, ← e, le-ltb s c le)
 
   pub place_is : {c a l : ℕ} → is_err r ≡ false → c ≡ symbols m → s < c → a ≡ name_start m s → l ≡ name_length m s → 4294967296 * a + l ≡ name_place m s
   unfolding name_place
-  place_is {c} f e lt ea el = rw (good f, ← e, lt-ltb s c lt, ea, el)
+  place_is {c} f e lt ea el = rw (← er, no_err r f, ← e, lt-ltb s c lt, ea, el)
 
 -- without a look at the book
 module _ (m : List ℕ) (s : ℕ) {c : ℕ} (ec : c ≡ symbols m) where
