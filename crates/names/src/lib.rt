@@ -203,6 +203,7 @@ impl<'a> Links<'a> {
     }
 
     // Which linked name is `name`, whose key this is, if any is; Busy if more than `most` had to be compared.
+    #[inline(always)]
     fn find(&self, name: &[u8], key: usize, most: usize) -> Result<Option<usize>, Busy>
         requires { key ≡ key_of self.now.factor name.now }
         ensures found { IfOk result (λ o. MatchOption o (NotAmong self.now.block.m.now self.now.block.base name.now self.now.count) (λ j. (j < self.now.count) × (name.now ≡ spelled_name self.now.block.m.now (self.now.block.base + j)))) }

@@ -7,4 +7,4 @@ pub returns-then-is_some-clause-stopped : goal.returns-then-is_some-clause-stopp
 returns-then-is_some-clause-stopped c =
     let self = c.loop-k.self in
     λ l. met_old self.block.m.now self.block.base self.count c.name-name.result.now _ c.in_ok-find.field-0 (sym c.is_some.ensures ∙ c.if-is_some.true)
-        (rw c.loop-k.invariant.so_far c.name-name.ensures.0) c.in_ok-find.ensures.found
+    (rw c.loop-k.invariant.so_far c.name-name.ensures.0) c.in_ok-find.ensures.found
