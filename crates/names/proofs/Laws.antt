@@ -73,6 +73,10 @@ pub met_old : (m : List ℕ) (base k : ℕ) (w : List ℕ) (P : Type 0) (o : Opt
 met_old m base k w P None h ew found = absurd (cc)
 met_old m base k w P (Some j) h ew found = name_old m (base + k) (base + j) (omega (arith, found.0)) (sym found.1 ∙ ew)
 
+pub met_none : {P : Type 0} (Q : ℕ → Type 0) (o : Option ℕ) → is_some o ≡ false → MatchOption o P Q → P
+met_none Q None h none = none
+met_none Q (Some j) h found = absurd (cc)
+
 -- LINKS: the last of the first k numbers at which f is b
 module _ (f : ℕ → ℕ) (b : ℕ) where
   last_le : (k : ℕ) → last_with f b k ≤ k

@@ -4,7 +4,7 @@
 // is looked up. Names are compared only where their links are the same. A block in which many are is linked again, by other keys.
 #![tactic(auto)]
 
-ghost use Rattle.std.specs.Prelude.{◌≡◌, true, false, ℕ, ◌+◌, ◌/◌, ◌%◌, ◌^◌, ◌<◌, ◌≤◌, length, eqb, get_or, IfOk, IfErr, MatchOption};
+ghost use Rattle.std.specs.Prelude.{◌≡◌, true, false, ℕ, ◌+◌, ◌/◌, ◌%◌, ◌^◌, ◌<◌, ◌≤◌, length, eqb, get_or, set, replicate, IfOk, IfErr, MatchOption};
 ghost use Rattle.meaning.specs.declared.Outcome.TheVariants.{Clean};
 ghost use Rattle.meaning.specs.Base.{word, first_below};
 ghost use Rattle.meaning.specs.Book.{start as start_of, text_start, spelled_name, new_name, record_at, section_fault};
@@ -161,45 +161,104 @@ impl<'a> Block<'a> {
     }
 }
 
-// The first `count` names of a block, all different, each linked to the one before it of its link, with both its marks.
+// The rooms in which the names of a block are linked, and their marks.
 #[derive(Drop)]
-struct Links<'a> {
-    block: Block<'a>,
-    factor: usize,
-    count: usize,
+struct Rooms {
     heads: [u8; LINKS],
     marks: Marks,
     nexts: [u8; BLOCK],
-    ghost small: { factor < 2147483648 },
-    ghost room: { count ≤ 224 },
-    ghost headed: { Headed factor block.m.now block.base heads count },
-    ghost linked: { Linked factor block.m.now block.base nexts count },
-    ghost marked: { AllMarked factor block.m.now block.base marks.bytes count },
-    ghost different: { Different block.m.now block.base count },
+    ghost sizes: { (length heads ≡ 128) × (length nexts ≡ 224) },
 }
 
-impl<'a> Links<'a> {
-    // None yet.
-    fn new(block: Block<'a>, factor: usize) -> Self
-        requires { factor < 2147483648 }
-        ensures { (result.block ≡ block.entry) × (result.factor ≡ factor) × (result.count ≡ 0) }
+impl Rooms {
+    // Rooms with no name in them.
+    fn new() -> Self
+        ensures { result.heads ≡ replicate 128 0 }
     {
-        Links {
-            block,
-            factor,
-            count: 0,
+        Rooms {
             heads: [0; LINKS],
             marks: Marks { bytes: [0; 256] },
             nexts: [0; BLOCK],
         }
     }
 
+    // Links name k, by its key, to the last name of its link, and sets its marks.
+    fn add(&mut self, k: usize, key: usize)
+        requires { k < 224 }
+        ensures heads { self.new.heads ≡ set self.old.heads (link_of key) (k + 1) }
+        ensures nexts { self.new.nexts ≡ set self.old.nexts k (get_or self.old.heads (link_of key) 0) }
+        ensures marked { Marked self.new.marks.bytes (first_mark key) × Marked self.new.marks.bytes (second_mark key) }
+        ensures keeps { (h : ℕ) → Marked self.old.marks.bytes h → Marked self.new.marks.bytes h }
+    {
+        let h = part::<LINK, LINKS>(key);
+        self.nexts[k] = self.heads[h];
+        self.heads[h] = (k + 1) as u8;
+        self.marks.add(part::<FIRST_MARK, MARKS>(key));
+        self.marks.add(part::<SECOND_MARK, MARKS>(key));
+    }
+}
+
+// The first `count` names of a block, all different: each is linked to the one before it of its link, and has both its marks.
+#[derive(Clone, Copy)]
+struct Links<'a> {
+    block: Block<'a>,
+    factor: usize,
+    count: usize,
+    rooms: &'a Rooms,
+    ghost small: { factor < 2147483648 },
+    ghost few: { count ≤ 224 },
+    ghost headed: { Headed factor block.m.now block.base rooms.now.heads count },
+    ghost linked: { Linked factor block.m.now block.base rooms.now.nexts count },
+    ghost marked: { AllMarked factor block.m.now block.base rooms.now.marks.bytes count },
+    ghost different: { Different block.m.now block.base count },
+}
+
+impl<'a> Links<'a> {
+    // Links the n names of the block up to the first that is one of those before it.
+    fn new(
+        block: Block<'a>,
+        n: usize,
+        factor: usize,
+        most: usize,
+        rooms: &'a mut Rooms,
+    ) -> Result<Self, Busy>
+        requires { (n ≤ 224) × (factor < 2147483648) × (rooms.old.heads ≡ replicate 128 0) }
+        ensures stopped { IfOk result (λ r. (r.block ≡ block.entry) × (r.count ≤ n) × (r.count < n → new_name block.entry.m.now (block.entry.base + r.count) ≡ false)) }
+        ensures busy { IfErr result (λ _. most < 224) }
+    {
+        for k in 0..n {
+            let name = block.name(block.base + k);
+            let x = key(name, factor);
+            let links = Links {
+                block,
+                factor,
+                count: k,
+                rooms: &*rooms,
+            };
+            if links.find(name, x, most)?.is_some() {
+                return Ok(Links {
+                    block,
+                    factor,
+                    count: k,
+                    rooms: &*rooms,
+                });
+            }
+            rooms.add(k, x);
+        }
+        Ok(Links {
+            block,
+            factor,
+            count: n,
+            rooms: &*rooms,
+        })
+    }
+
     // Whether a key may be that of a linked name: both its marks are set.
     fn may_have(&self, key: usize) -> bool
-        ensures { result ≡ false → Marked self.now.marks.bytes (first_mark key) × Marked self.now.marks.bytes (second_mark key) → ⊥ }
+        ensures { result ≡ false → Marked self.now.rooms.now.marks.bytes (first_mark key) × Marked self.now.rooms.now.marks.bytes (second_mark key) → ⊥ }
     {
-        self.marks.has(part::<FIRST_MARK, MARKS>(key))
-            & self.marks.has(part::<SECOND_MARK, MARKS>(key))
+        let marks = &self.rooms.marks;
+        marks.has(part::<FIRST_MARK, MARKS>(key)) & marks.has(part::<SECOND_MARK, MARKS>(key))
     }
 
     // Which linked name is `name`, whose key this is, if any is; Busy if more than `most` had to be compared.
@@ -209,49 +268,16 @@ impl<'a> Links<'a> {
         ensures found { IfOk result (λ o. MatchOption o (NotAmong self.now.block.m.now self.now.block.base name.now self.now.count) (λ j. (j < self.now.count) × (name.now ≡ spelled_name self.now.block.m.now (self.now.block.base + j)))) }
         ensures busy { IfErr result (λ _. most < 224) }
     {
-        let mut c = raw::wide(self.heads[part::<LINK, LINKS>(key)]);
+        let mut c = raw::wide(self.rooms.heads[part::<LINK, LINKS>(key)]);
         let mut left = most;
         while let Some(j) = c.checked_sub(1) {
             left = left.checked_sub(1).ok_or(Busy)?;
             if raw::same(name, self.block.name(self.block.base + j)) {
                 return Ok(Some(j));
             }
-            c = raw::wide(self.nexts[j]);
+            c = raw::wide(self.rooms.nexts[j]);
         }
         Ok(None)
-    }
-
-    // Links the block's next name, whose key this is and which is none of those before it.
-    fn add(&mut self, key: usize)
-        requires room { self.old.count < 224 }
-        requires is_key { key ≡ name_key self.old.factor self.old.block.m.now (self.old.block.base + self.old.count) }
-        requires none { NotAmong self.old.block.m.now self.old.block.base (spelled_name self.old.block.m.now (self.old.block.base + self.old.count)) self.old.count }
-        ensures { (self.new.block ≡ self.old.block) × (self.new.factor ≡ self.old.factor) × (self.new.count ≡ self.old.count + 1) }
-    {
-        let h = part::<LINK, LINKS>(key);
-        self.nexts[self.count] = self.heads[h];
-        self.count += 1;
-        self.heads[h] = self.count as u8;
-        self.marks.add(part::<FIRST_MARK, MARKS>(key));
-        self.marks.add(part::<SECOND_MARK, MARKS>(key));
-    }
-
-    // Links the n names of the block up to the first that is one of those before it.
-    fn fill(&mut self, n: usize, most: usize) -> Result<(), Busy>
-        requires { (n ≤ 224) × (self.old.count ≡ 0) }
-        ensures same { (self.new.block ≡ self.old.block) × (self.new.count ≤ n) }
-        ensures stopped { IfOk result (λ _. self.new.count < n → new_name self.new.block.m.now (self.new.block.base + self.new.count) ≡ false) }
-        ensures busy { IfErr result (λ _. most < 224) }
-    {
-        for k in 0..n {
-            let name = self.block.name(self.block.base + k);
-            let x = key(name, self.factor);
-            if self.find(name, x, most)?.is_some() {
-                return Ok(());
-            }
-            self.add(x);
-        }
-        Ok(())
     }
 
     // How many of the linked names, from the first on, are new: no name before the block is one.
@@ -290,8 +316,8 @@ fn fresh(block: Block, n: usize, factor: usize, most: usize) -> Result<usize, Bu
     ensures new { IfOk result (λ r. (r ≤ n) × NewUpTo block.entry.m.now block.entry.base r × (r < n → new_name block.entry.m.now (block.entry.base + r) ≡ false)) }
     ensures busy { IfErr result (λ _. most < 224) }
 {
-    let mut links = Links::new(block, factor);
-    links.fill(n, most)?;
+    let mut rooms = Rooms::new();
+    let links = Links::new(block, n, factor, most, &mut rooms)?;
     links.new_ones(most)
 }
 

@@ -10,13 +10,13 @@ loop-j-init c =
     let m = self.block.m.now in
     let base = self.block.base in
     let name = c.args.name.now in
-    let begins = headed_at self.factor m base self.heads self.count name self.headed c.requires c.part.ensures.0 c.wide-c.ensures.0 in
-    let low = start_le m base self.nexts name self.factor self.count begins in
+    let begins = headed_at self.factor m base self.rooms.now.heads self.count name self.headed c.requires c.part.ensures.0 c.wide-c.ensures.0 in
+    let low = start_le m base self.rooms.now.nexts name self.factor self.count begins in
     record {
       within = low;
-      lasting = λ l. omega (arith, low, self.room);
-      walk = walk_from m base self.nexts name self.factor self.count begins self.linked;
-      passed = none_after m base self.nexts name self.factor self.count begins;
+      lasting = λ l. omega (arith, low, self.few);
+      walk = walk_from m base self.rooms.now.nexts name self.factor self.count begins self.linked;
+      passed = none_after m base self.rooms.now.nexts name self.factor self.count begins;
     }
 
 pub returns-then-same-clause-found : goal.returns-then-same-clause-found
@@ -26,7 +26,7 @@ returns-then-same-clause-found c =
 pub loop-j-smaller : goal.loop-j-smaller
 loop-j-smaller c =
     let self = c.args.self.now in
-    walk_less self.block.m.now self.block.base self.nexts c.args.name.now self.factor c.loop-j.c c.in-Some.j (omega (arith, c.in-Some.ensures)) c.loop-j.invariant.walk c.wide-c-in-Some.ensures.0
+    walk_less self.block.m.now self.block.base self.rooms.now.nexts c.args.name.now self.factor c.loop-j.c c.in-Some.j (omega (arith, c.in-Some.ensures)) c.loop-j.invariant.walk c.wide-c-in-Some.ensures.0
 
 pub loop-j-preserved : goal.loop-j-preserved
 loop-j-preserved c =
@@ -37,10 +37,10 @@ loop-j-preserved c =
     let loop = c.loop-j in
     let here : loop.c ≡ c.in-Some.j + 1 = omega (arith, c.in-Some.ensures) in
     let step = c.wide-c-in-Some.ensures.0 in
-    let less = walk_less m base self.nexts name self.factor loop.c c.in-Some.j here loop.invariant.walk step in
+    let less = walk_less m base self.rooms.now.nexts name self.factor loop.c c.in-Some.j here loop.invariant.walk step in
     record {
       within = omega (arith, less, loop.invariant.within);
       lasting = λ l. omega (arith, less, loop.invariant.lasting l, rw c.in_ok-left.ensures.ok_part at c.checked_sub-in-Some.ensures);
-      walk = walk_on m base self.nexts name self.factor loop.c c.in-Some.j here loop.invariant.walk step;
-      passed = walk_passed m base self.nexts name self.factor loop.c c.in-Some.j here loop.invariant.walk step self.count (texts_differ _ _ (rw c.name.ensures.0 at c.same.ensures) c.if-same.false) loop.invariant.passed;
+      walk = walk_on m base self.rooms.now.nexts name self.factor loop.c c.in-Some.j here loop.invariant.walk step;
+      passed = walk_passed m base self.rooms.now.nexts name self.factor loop.c c.in-Some.j here loop.invariant.walk step self.count (texts_differ _ _ (rw c.name.ensures.0 at c.same.ensures) c.if-same.false) loop.invariant.passed;
     }

@@ -8,7 +8,7 @@ abbrev pub invariant-loop-j : goal.invariant-loop-j
 invariant-loop-j l = record {
   within : l.c ≤ l.self.count;
   lasting : 224 ≤ l.most → l.c ≤ l.left;
-  walk : Walk l.self.block.m.now l.self.block.base l.self.nexts l.name l.self.factor l.c;
+  walk : Walk l.self.block.m.now l.self.block.base l.self.rooms.now.nexts l.name l.self.factor l.c;
   passed : (j : ℕ) → l.c ≤ j → j < l.self.count → l.name ≡ spelled_name l.self.block.m.now (l.self.block.base + j) → ⊥;
 }
 

@@ -31,7 +31,7 @@ loop-e-preserved c =
           })
       | else-may_have w ↦ rw (w.new-is, w.allowed-is) (record {
         first = first_more m base self.count loop.new loop.e loop.new loop.invariant.first name (omega arith) (omega arith)
-            (λ j l z. unmarked self.factor m base self.marks.bytes self.count loop.e self.marked (c.key-x.ensures ∙ ap (key_of self.factor) name) (c.may_have.ensures w.if-may_have.false) j
+            (λ j l z. unmarked self.factor m base self.rooms.now.marks.bytes self.count loop.e self.marked (c.key-x.ensures ∙ ap (key_of self.factor) name) (c.may_have.ensures w.if-may_have.false) j
             (omega (arith, loop.invariant.first.0)) (sym name ∙ z))
             (λ l. absurd (omega arith));
         lasting = λ l. omega (arith, loop.invariant.lasting l);
