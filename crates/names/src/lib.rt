@@ -311,13 +311,13 @@ fn lookups(base: usize, most: usize) -> usize
 }
 
 // How many of the n names of the block, from the first on, are new, up to the first that is not.
-fn fresh(block: Block, n: usize, factor: usize, most: usize) -> Result<usize, Busy>
-    requires { (n ≤ 224) × (factor < 2147483648) }
-    ensures new { IfOk result (λ r. (r ≤ n) × NewUpTo block.entry.m.now block.entry.base r × (r < n → new_name block.entry.m.now (block.entry.base + r) ≡ false)) }
+fn fresh(m: &[u8], base: usize, n: usize, factor: usize, most: usize) -> Result<usize, Busy>
+    requires { (base < 65536) × (n ≤ 224) × (factor < 2147483648) }
+    ensures new { IfOk result (λ r. (r ≤ n) × NewUpTo m.now base r × (r < n → new_name m.now (base + r) ≡ false)) }
     ensures busy { IfErr result (λ _. most < 224) }
 {
     let mut rooms = Rooms::new();
-    let links = Links::new(block, n, factor, most, &mut rooms)?;
+    let links = Links::new(Block::new(m, base), n, factor, most, &mut rooms)?;
     links.new_ones(most)
 }
 
@@ -326,10 +326,9 @@ fn first_old(m: &[u8], base: usize, n: usize) -> usize
     requires { (base < 65536) × (n ≤ 224) }
     ensures { (result ≤ n) × ((s : ℕ) → base ≤ s → s < base + result → new_name m.now s ≡ true) × (result < n → new_name m.now (base + result) ≡ false) }
 {
-    let block = Block::new(m, base);
     for c in 0..TRIES {
         let most = if c + 1 < TRIES { MOST } else { BLOCK };
-        if let Ok(new) = fresh(block, n, factor_of(c), most) {
+        if let Ok(new) = fresh(m, base, n, factor_of(c), most) {
             return new;
         }
     }
