@@ -152,6 +152,10 @@ module _ (factor : ℕ) (m : List ℕ) (base : ℕ) where
   unfolding last_with
   no_heads b l = get_or-replicate 128 b 0 0 l
 
+  -- what stands behind them is nothing to the first k
+  pub linked_still : (k : ℕ) (nexts : List ℕ) (v : ℕ) → Linked factor m base nexts k → Linked factor m base (set nexts k v) k
+  linked_still k nexts v all j n = get_or-set_other nexts k j v 0 (λ u. absurd (let z : j ≡ k = u in omega arith)) ∙ all j n
+
   -- after that of its name k, whose key is x
   module _ (k : ℕ) {x : ℕ} (ex : x ≡ name_key factor m (base + k)) where
     pub headed_more : (heads : List ℕ) {h : ℕ} → h ≡ link_of x → h < length heads → Headed factor m base heads k → Headed factor m base (set heads h (k + 1)) (k + 1)
@@ -170,7 +174,7 @@ module _ (factor : ℕ) (m : List ℕ) (base : ℕ) where
         → Linked factor m base (set nexts k v) (k + 1)
     linked_more heads nexts {h} {v} e lh ev l headed all =
         below_more (λ j. get_or (set nexts k v) j 0 ≡ last_with (link_at factor m base) (link_at factor m base j) j) k
-        (λ j n. get_or-set_other nexts k j v 0 (λ u. absurd (let z : j ≡ k = u in omega arith)) ∙ all j n)
+        (linked_still k nexts v all)
         (get_or-set_same nexts k v 0 l ∙ ev ∙ headed h lh ∙ ap (λ b. last_with (link_at factor m base) b k) (e ∙ ap link_of ex))
 
     pub marked_more : (old new : List ℕ) → ((h : ℕ) → Marked old h → Marked new h) → Marked new (first_mark x) × Marked new (second_mark x)

@@ -182,19 +182,26 @@ impl Rooms {
         }
     }
 
-    // Links name k, by its key, to the last name of its link, and sets its marks.
+    // Writes name k down, by its key: which name of its link comes next, and its marks.
     fn add(&mut self, k: usize, key: usize)
         requires { k < 224 }
-        ensures heads { self.new.heads ≡ set self.old.heads (link_of key) (k + 1) }
+        ensures heads { self.new.heads ≡ self.old.heads }
         ensures nexts { self.new.nexts ≡ set self.old.nexts k (get_or self.old.heads (link_of key) 0) }
         ensures marked { Marked self.new.marks.bytes (first_mark key) × Marked self.new.marks.bytes (second_mark key) }
         ensures keeps { (h : ℕ) → Marked self.old.marks.bytes h → Marked self.new.marks.bytes h }
     {
-        let h = part::<LINK, LINKS>(key);
-        self.nexts[k] = self.heads[h];
-        self.heads[h] = (k + 1) as u8;
+        self.nexts[k] = self.heads[part::<LINK, LINKS>(key)];
         self.marks.add(part::<FIRST_MARK, MARKS>(key));
         self.marks.add(part::<SECOND_MARK, MARKS>(key));
+    }
+
+    // Has the link of this key start at name k.
+    fn head(&mut self, k: usize, key: usize)
+        requires { k < 224 }
+        ensures heads { self.new.heads ≡ set self.old.heads (link_of key) (k + 1) }
+        ensures others { (self.new.nexts ≡ self.old.nexts) × (self.new.marks ≡ self.old.marks) }
+    {
+        self.heads[part::<LINK, LINKS>(key)] = (k + 1) as u8;
     }
 }
 
@@ -229,6 +236,7 @@ impl<'a> Links<'a> {
         for k in 0..n {
             let name = block.name(block.base + k);
             let x = key(name, factor);
+            rooms.add(k, x);
             let links = Links {
                 block,
                 factor,
@@ -243,7 +251,7 @@ impl<'a> Links<'a> {
                     rooms: &*rooms,
                 });
             }
-            rooms.add(k, x);
+            rooms.head(k, x);
         }
         Ok(Links {
             block,
