@@ -295,12 +295,15 @@ impl<'a> Links<'a> {
     {
         let base = self.block.base;
         let mut new = self.count;
-        let mut allowed = lookups(base, most);
+        let mut looked_up: usize = 0;
         for e in 0..base {
             let name = self.block.name(e);
             let x = key(name, self.factor);
             if self.may_have(x) {
-                allowed = allowed.checked_sub(1).ok_or(Busy)?;
+                looked_up += 1;
+                if too_many(looked_up, e, most) {
+                    return Err(Busy);
+                }
                 if let Some(j) = self.find(name, x, BLOCK)? {
                     new = new.min(j);
                 }
@@ -310,12 +313,11 @@ impl<'a> Links<'a> {
     }
 }
 
-// How many names before the block a try may compare with one of the block: a quarter of them and some more, the last try all.
-fn lookups(base: usize, most: usize) -> usize
-    requires { base < 65536 }
-    ensures { 224 ≤ most → base ≤ result }
+// Whether a try gives up that looked up so many of the first names, those up to e: more than a quarter of them and some. The last try never does.
+fn too_many(looked_up: usize, e: usize, most: usize) -> bool
+    ensures { result ≡ true → most < 224 }
 {
-    if most < BLOCK { base / 4 + 64 } else { base }
+    most < BLOCK && e / 4 + 64 < looked_up
 }
 
 // How many of the n names of the block, from the first on, are new, up to the first that is not.

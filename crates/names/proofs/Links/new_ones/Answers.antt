@@ -3,7 +3,7 @@ use Rattle.std.proofs.Common.{◌≡◌, ◌+◌, ◌-◌, sym, ◌∙◌, ap, a
 use Rattle.names.specs.Keys.{key_of}
 use Rattle.names.proofs.Laws.{unmarked, only, first_more, block_new}
 use Rattle.names.proofs.Links.new_ones.Goals as goal
-use Rattle.names.proofs.Links.new_ones.Goals.{then-may_have+in_ok-allowed+in_ok-j+in-Some, then-may_have+in_ok-allowed+in_ok-j+in_default, else-may_have}
+use Rattle.names.proofs.Links.new_ones.Goals.{then-may_have+else-too_many+in_ok-j+in-Some, then-may_have+else-too_many+in_ok-j+in_default, else-may_have}
 
 pub loop-e-preserved : goal.loop-e-preserved
 loop-e-preserved c =
@@ -13,28 +13,28 @@ loop-e-preserved c =
     let loop = c.loop-e in
     let name = c.name-name.ensures.0 in
     elim c.if-may_have.branch [
-      | then-may_have+in_ok-allowed+in_ok-j+in-Some w ↦
+      | then-may_have+else-too_many+in_ok-j+in-Some w ↦
           let min = w.min-new.ensures in
           let found = rw w.in-Some.is at w.in_ok-j.ensures.found in
-          rw (w.new-is, w.allowed-is) (record {
+          rw (w.new-is, w.looked_up-is) (record {
             first = first_more m base self.count loop.new loop.e w.min-new.result loop.invariant.first name (omega arith) (omega (arith, min))
                 (λ j l. only m base self.count w.in-Some.j self.different found.0 found.1 j (omega (arith, min, l)))
                 (λ l. let q : w.min-new.result ≡ w.in-Some.j = omega (arith, min, l) in rw q found.1);
-            lasting = λ l. omega (arith, loop.invariant.lasting l, rw w.in_ok-allowed.ensures.ok_part at w.checked_sub.ensures);
+            counted = omega arith;
           })
-      | then-may_have+in_ok-allowed+in_ok-j+in_default w ↦
+      | then-may_have+else-too_many+in_ok-j+in_default w ↦
           let found = rw w.in_default.is at w.in_ok-j.ensures.found in
-          rw (w.new-is, w.allowed-is) (record {
+          rw (w.new-is, w.looked_up-is) (record {
             first = first_more m base self.count loop.new loop.e loop.new loop.invariant.first name (omega arith) (omega arith)
                 (λ j l. found j (omega (arith, l, loop.invariant.first.0))) (λ l. absurd (omega arith));
-            lasting = λ l. omega (arith, loop.invariant.lasting l, rw w.in_ok-allowed.ensures.ok_part at w.checked_sub.ensures);
+            counted = omega arith;
           })
-      | else-may_have w ↦ rw (w.new-is, w.allowed-is) (record {
+      | else-may_have w ↦ rw (w.new-is, w.looked_up-is) (record {
         first = first_more m base self.count loop.new loop.e loop.new loop.invariant.first name (omega arith) (omega arith)
             (λ j l z. unmarked self.factor m base self.rooms.now.marks.bytes self.count loop.e self.marked (c.key-x.ensures ∙ ap (key_of self.factor) name) (c.may_have.ensures w.if-may_have.false) j
             (omega (arith, loop.invariant.first.0)) (sym name ∙ z))
             (λ l. absurd (omega arith));
-        lasting = λ l. omega (arith, loop.invariant.lasting l);
+        counted = omega arith;
       })
     ]
 

@@ -6,5 +6,5 @@ use Rattle.names.proofs.Links.new_ones.Given as goal
 abbrev pub invariant-loop-e : goal.invariant-loop-e
 invariant-loop-e l = record {
   first : First l.self.block.m.now l.base l.self.count l.new l.e;
-  lasting : 224 ≤ l.most → l.base ≤ l.allowed + l.e;
+  counted : l.looked_up ≤ l.e;
 }
