@@ -15,10 +15,12 @@ use meaning::Outcome;
 // How many names a block has at most.
 const BLOCK: usize = 224;
 
-// How many tries a block has, and how many names a try may compare with one, or look up at once; the last one any number.
-const TRIES: usize = 8;
+// How many tries a block has, and how many names a try may compare with one; the last one all that a block has.
+const TRIES: u32 = 8;
 
-const MOST: usize = 10;
+const MOST: u8 = 10;
+
+const ALL: u8 = 224;
 
 // What a key is kept below while it is made, and its last factor, which spreads it.
 const MODULUS: usize = 4294967296;
@@ -95,11 +97,11 @@ fn part<const UNIT: usize, const SIZE: usize>(key: usize) -> usize
 }
 
 // What the keys of try c are made with.
-fn factor_of(c: usize) -> usize
+fn factor_of(c: u32) -> usize
     requires { c < 8 }
     ensures { result < 2147483648 }
 {
-    1000000007 + 100000006 * c
+    1000000007 + 100000006 * c as usize
 }
 
 // A set of marks, each a bit.
@@ -226,7 +228,7 @@ impl<'a> Links<'a> {
         block: Block<'a>,
         n: usize,
         factor: usize,
-        most: usize,
+        most: u8,
         rooms: &'a mut Rooms,
     ) -> Result<Self, Busy>
         requires { (n ≤ 224) × (factor < 2147483648) × (rooms.old.heads ≡ replicate 128 0) }
@@ -271,7 +273,7 @@ impl<'a> Links<'a> {
 
     // Which linked name is `name`, whose key this is, if any is; Busy if more than `most` had to be compared.
     #[inline(always)]
-    fn find(&self, name: &[u8], key: usize, most: usize) -> Result<Option<usize>, Busy>
+    fn find(&self, name: &[u8], key: usize, most: u8) -> Result<Option<usize>, Busy>
         requires { key ≡ key_of self.now.factor name.now }
         ensures found { IfOk result (λ o. MatchOption o (NotAmong self.now.block.m.now self.now.block.base name.now self.now.count) (λ j. (j < self.now.count) × (name.now ≡ spelled_name self.now.block.m.now (self.now.block.base + j)))) }
         ensures busy { IfErr result (λ _. most < 224) }
@@ -289,7 +291,7 @@ impl<'a> Links<'a> {
     }
 
     // How many of the linked names, from the first on, are new: no name before the block is one.
-    fn new_ones(&self, most: usize) -> Result<usize, Busy>
+    fn new_ones(&self, most: u8) -> Result<usize, Busy>
         ensures new { IfOk result (λ r. (r ≤ self.now.count) × NewUpTo self.now.block.m.now self.now.block.base r × (r < self.now.count → new_name self.now.block.m.now (self.now.block.base + r) ≡ false)) }
         ensures busy { IfErr result (λ _. most < 224) }
     {
@@ -304,7 +306,7 @@ impl<'a> Links<'a> {
                 if too_many(looked_up, e, most) {
                     return Err(Busy);
                 }
-                if let Some(j) = self.find(name, x, BLOCK)? {
+                if let Some(j) = self.find(name, x, ALL)? {
                     new = new.min(j);
                 }
             }
@@ -314,14 +316,14 @@ impl<'a> Links<'a> {
 }
 
 // Whether a try gives up that looked up so many of the first names, those up to e: more than a quarter of them and some. The last try never does.
-fn too_many(looked_up: usize, e: usize, most: usize) -> bool
+fn too_many(looked_up: usize, e: usize, most: u8) -> bool
     ensures { result ≡ true → most < 224 }
 {
-    most < BLOCK && e / 4 + 64 < looked_up
+    most < ALL && e / 4 + 64 < looked_up
 }
 
 // How many of the n names of the block, from the first on, are new, up to the first that is not.
-fn fresh(m: &[u8], base: usize, n: usize, factor: usize, most: usize) -> Result<usize, Busy>
+fn fresh(m: &[u8], base: usize, n: usize, factor: usize, most: u8) -> Result<usize, Busy>
     requires { (base < 65536) × (n ≤ 224) × (factor < 2147483648) }
     ensures new { IfOk result (λ r. (r ≤ n) × NewUpTo m.now base r × (r < n → new_name m.now (base + r) ≡ false)) }
     ensures busy { IfErr result (λ _. most < 224) }
@@ -337,7 +339,7 @@ fn first_old(m: &[u8], base: usize, n: usize) -> usize
     ensures { (result ≤ n) × ((s : ℕ) → base ≤ s → s < base + result → new_name m.now s ≡ true) × (result < n → new_name m.now (base + result) ≡ false) }
 {
     for c in 0..TRIES {
-        let most = if c + 1 < TRIES { MOST } else { BLOCK };
+        let most = if c + 1 < TRIES { MOST } else { ALL };
         if let Ok(new) = fresh(m, base, n, factor_of(c), most) {
             return new;
         }
