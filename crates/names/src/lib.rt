@@ -15,12 +15,10 @@ use meaning::Outcome;
 // How many names a block has at most.
 const BLOCK: usize = 224;
 
-// How many tries a block has, and how many names a try may compare with one; the last one all that a block has.
-const TRIES: u32 = 8;
+// How many tries a block has, and how many names a limited one may compare with one: each is limited but the last.
+const TRIES: usize = 8;
 
-const MOST: u8 = 10;
-
-const ALL: u8 = 224;
+const MOST: usize = 10;
 
 // What a key is kept below while it is made, and its last factor, which spreads it.
 const MODULUS: usize = 4294967296;
@@ -97,11 +95,11 @@ fn part<const UNIT: usize, const SIZE: usize>(key: usize) -> usize
 }
 
 // What the keys of try c are made with.
-fn factor_of(c: u32) -> usize
+fn factor_of(c: usize) -> usize
     requires { c < 8 }
     ensures { result < 2147483648 }
 {
-    1000000007 + 100000006 * c as usize
+    1000000007 + 100000006 * c
 }
 
 // A set of marks, each a bit.
@@ -228,12 +226,12 @@ impl<'a> Links<'a> {
         block: Block<'a>,
         n: usize,
         factor: usize,
-        most: u8,
+        limited: bool,
         rooms: &'a mut Rooms,
     ) -> Result<Self, Busy>
         requires { (n ≤ 224) × (factor < 2147483648) × (rooms.old.heads ≡ replicate 128 0) }
         ensures stopped { IfOk result (λ r. (r.block ≡ block.entry) × (r.count ≤ n) × (r.count < n → new_name block.entry.m.now (block.entry.base + r.count) ≡ false)) }
-        ensures busy { IfErr result (λ _. most < 224) }
+        ensures busy { IfErr result (λ _. limited ≡ true) }
     {
         for k in 0..n {
             let name = block.name(block.base + k);
@@ -245,7 +243,7 @@ impl<'a> Links<'a> {
                 count: k,
                 rooms: &*rooms,
             };
-            if links.find(name, x, most)?.is_some() {
+            if links.find(name, x, limited)?.is_some() {
                 return Ok(Links {
                     block,
                     factor,
@@ -271,29 +269,33 @@ impl<'a> Links<'a> {
         marks.has(part::<FIRST_MARK, MARKS>(key)) & marks.has(part::<SECOND_MARK, MARKS>(key))
     }
 
-    // Which linked name is `name`, whose key this is, if any is; Busy if more than `most` had to be compared.
+    // Which linked name is `name`, whose key this is, if any is; Busy if more had to be compared than a limited try may.
     #[inline(always)]
-    fn find(&self, name: &[u8], key: usize, most: u8) -> Result<Option<usize>, Busy>
+    fn find(&self, name: &[u8], key: usize, limited: bool) -> Result<Option<usize>, Busy>
         requires { key ≡ key_of self.now.factor name.now }
         ensures found { IfOk result (λ o. MatchOption o (NotAmong self.now.block.m.now self.now.block.base name.now self.now.count) (λ j. (j < self.now.count) × (name.now ≡ spelled_name self.now.block.m.now (self.now.block.base + j)))) }
-        ensures busy { IfErr result (λ _. most < 224) }
+        ensures busy { IfErr result (λ _. limited ≡ true) }
     {
         let mut c = raw::wide(self.rooms.heads[part::<LINK, LINKS>(key)]);
-        let mut left = most;
+        let mut compared: usize = 0;
         while let Some(j) = c.checked_sub(1) {
-            left = left.checked_sub(1).ok_or(Busy)?;
+            if limited && compared == MOST {
+                return Err(Busy);
+            }
             if raw::same(name, self.block.name(self.block.base + j)) {
                 return Ok(Some(j));
             }
             c = raw::wide(self.rooms.nexts[j]);
+            compared += 1;
         }
         Ok(None)
     }
 
-    // How many of the linked names, from the first on, are new: no name before the block is one.
-    fn new_ones(&self, most: u8) -> Result<usize, Busy>
+    // How many of the linked names, from the first on, are new: no name before the block is one. A limited try may look up a quarter of
+    // those and some more.
+    fn new_ones(&self, limited: bool) -> Result<usize, Busy>
         ensures new { IfOk result (λ r. (r ≤ self.now.count) × NewUpTo self.now.block.m.now self.now.block.base r × (r < self.now.count → new_name self.now.block.m.now (self.now.block.base + r) ≡ false)) }
-        ensures busy { IfErr result (λ _. most < 224) }
+        ensures busy { IfErr result (λ _. limited ≡ true) }
     {
         let base = self.block.base;
         let mut new = self.count;
@@ -303,10 +305,10 @@ impl<'a> Links<'a> {
             let x = key(name, self.factor);
             if self.may_have(x) {
                 looked_up += 1;
-                if too_many(looked_up, e, most) {
+                if limited && e / 4 + 64 < looked_up {
                     return Err(Busy);
                 }
-                if let Some(j) = self.find(name, x, ALL)? {
+                if let Some(j) = self.find(name, x, false)? {
                     new = new.min(j);
                 }
             }
@@ -315,22 +317,15 @@ impl<'a> Links<'a> {
     }
 }
 
-// Whether a try gives up that looked up so many of the first names, those up to e: more than a quarter of them and some. The last try never does.
-fn too_many(looked_up: usize, e: usize, most: u8) -> bool
-    ensures { result ≡ true → most < 224 }
-{
-    most < ALL && e / 4 + 64 < looked_up
-}
-
 // How many of the n names of the block, from the first on, are new, up to the first that is not.
-fn fresh(m: &[u8], base: usize, n: usize, factor: usize, most: u8) -> Result<usize, Busy>
+fn fresh(m: &[u8], base: usize, n: usize, factor: usize, limited: bool) -> Result<usize, Busy>
     requires { (base < 65536) × (n ≤ 224) × (factor < 2147483648) }
     ensures new { IfOk result (λ r. (r ≤ n) × NewUpTo m.now base r × (r < n → new_name m.now (base + r) ≡ false)) }
-    ensures busy { IfErr result (λ _. most < 224) }
+    ensures busy { IfErr result (λ _. limited ≡ true) }
 {
     let mut rooms = Rooms::new();
-    let links = Links::new(Block::new(m, base), n, factor, most, &mut rooms)?;
-    links.new_ones(most)
+    let links = Links::new(Block::new(m, base), n, factor, limited, &mut rooms)?;
+    links.new_ones(limited)
 }
 
 // How many of the n names from base on are new, up to the first that is not.
@@ -339,8 +334,7 @@ fn first_old(m: &[u8], base: usize, n: usize) -> usize
     ensures { (result ≤ n) × ((s : ℕ) → base ≤ s → s < base + result → new_name m.now s ≡ true) × (result < n → new_name m.now (base + result) ≡ false) }
 {
     for c in 0..TRIES {
-        let most = if c + 1 < TRIES { MOST } else { ALL };
-        if let Ok(new) = fresh(m, base, n, factor_of(c), most) {
+        if let Ok(new) = fresh(m, base, n, factor_of(c), c + 1 < TRIES) {
             return new;
         }
     }

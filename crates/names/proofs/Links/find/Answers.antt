@@ -13,8 +13,7 @@ loop-j-init c =
     let begins = headed_at self.factor m base self.rooms.now.heads self.count name self.headed c.requires c.part.ensures.0 c.wide-c.ensures.0 in
     let low = start_le m base self.rooms.now.nexts name self.factor self.count begins in
     record {
-      within = low;
-      lasting = λ l. omega (arith, low, self.few);
+      within = omega (arith, low);
       walk = walk_from m base self.rooms.now.nexts name self.factor self.count begins self.linked;
       passed = none_after m base self.rooms.now.nexts name self.factor self.count begins;
     }
@@ -40,7 +39,6 @@ loop-j-preserved c =
     let less = walk_less m base self.rooms.now.nexts name self.factor loop.c c.in-Some.j here loop.invariant.walk step in
     record {
       within = omega (arith, less, loop.invariant.within);
-      lasting = λ l. omega (arith, less, loop.invariant.lasting l, rw c.in_ok-left.ensures.ok_part at c.checked_sub-in-Some.ensures);
       walk = walk_on m base self.rooms.now.nexts name self.factor loop.c c.in-Some.j here loop.invariant.walk step;
       passed = walk_passed m base self.rooms.now.nexts name self.factor loop.c c.in-Some.j here loop.invariant.walk step self.count (texts_differ _ _ (rw c.name.ensures.0 at c.same.ensures) c.if-same.false) loop.invariant.passed;
     }

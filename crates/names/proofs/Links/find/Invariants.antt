@@ -6,8 +6,7 @@ use Rattle.names.proofs.Links.find.Given as goal
 
 abbrev pub invariant-loop-j : goal.invariant-loop-j
 invariant-loop-j l = record {
-  within : l.c ≤ l.self.count;
-  lasting : 224 ≤ l.most → l.c ≤ l.left;
+  within : l.compared + l.c ≤ l.self.count;
   walk : Walk l.self.block.m.now l.self.block.base l.self.rooms.now.nexts l.name l.self.factor l.c;
   passed : (j : ℕ) → l.c ≤ j → j < l.self.count → l.name ≡ spelled_name l.self.block.m.now (l.self.block.base + j) → ⊥;
 }

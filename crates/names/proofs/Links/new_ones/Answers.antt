@@ -3,7 +3,7 @@ use Rattle.std.proofs.Common.{◌≡◌, ◌+◌, ◌-◌, sym, ◌∙◌, ap, a
 use Rattle.names.specs.Keys.{key_of}
 use Rattle.names.proofs.Laws.{unmarked, only, first_more, block_new}
 use Rattle.names.proofs.Links.new_ones.Goals as goal
-use Rattle.names.proofs.Links.new_ones.Goals.{then-may_have+else-too_many+in_ok-j+in-Some, then-may_have+else-too_many+in_ok-j+in_default, else-may_have}
+use Rattle.names.proofs.Links.new_ones.Goals.{then-may_have+else-limited+in_ok-j+in-Some, then-may_have+else-limited+in_ok-j+in_default, else-may_have}
 
 pub loop-e-preserved : goal.loop-e-preserved
 loop-e-preserved c =
@@ -13,7 +13,7 @@ loop-e-preserved c =
     let loop = c.loop-e in
     let name = c.name-name.ensures.0 in
     elim c.if-may_have.branch [
-      | then-may_have+else-too_many+in_ok-j+in-Some w ↦
+      | then-may_have+else-limited+in_ok-j+in-Some w ↦
           let min = w.min-new.ensures in
           let found = rw w.in-Some.is at w.in_ok-j.ensures.found in
           rw (w.new-is, w.looked_up-is) (record {
@@ -22,7 +22,7 @@ loop-e-preserved c =
                 (λ l. let q : w.min-new.result ≡ w.in-Some.j = omega (arith, min, l) in rw q found.1);
             counted = omega arith;
           })
-      | then-may_have+else-too_many+in_ok-j+in_default w ↦
+      | then-may_have+else-limited+in_ok-j+in_default w ↦
           let found = rw w.in_default.is at w.in_ok-j.ensures.found in
           rw (w.new-is, w.looked_up-is) (record {
             first = first_more m base self.count loop.new loop.e loop.new loop.invariant.first name (omega arith) (omega arith)
