@@ -3,12 +3,12 @@ use mathlib.Core.Path.{◌≡◌, refl, sym, ◌∙◌, ap}
 use mathlib.Core.Bool.{Bool, true, false, ◌&&◌, not, true≢false}
 use mathlib.Core.List.{List, [], ◌∷◌, ◌++◌}
 use mathlib.Core.Logic.{⊎_elim}
-use Prim.Native.Nat.{ℕ, zero, suc, ◌+◌, ◌-◌, ◌*◌, ◌/◌, ◌%◌, ◌≤◌, ◌<◌}
+use Prim.Native.Nat.{ℕ, zero, suc, ◌+◌, ◌-◌, ◌*◌, ◌≤◌, ◌<◌}
 use native.Mathlib.Nat.{eq-or-lt_of_le, le_of_suc-le-suc}
 use native.Mathlib.Omega.{arith}
 use native.Mathlib.Numerals.{add-one}
 use lib.Dec.{eqb, leb, ltb}
-use lib.ListN.{length, drop, get_or, get_or-append, length-append, length-drop, set, replicate, get_or-replicate, length-set, get_or-eq_default}
+use lib.ListN.{length, drop, get_or, get_or-append, length-append, length-drop, set, replicate, get_or-replicate, get_or-eq_default}
 use lib.Seq.{drop-append_seam, get_or-drop, get_or-set_same, get_or-set_other}
 use borrow.Author.Tests.{eq-eqb, eqb-true, eqb-false, ltb-true, ltb-false}
 use borrow.Author.Count.{below_more}
@@ -19,7 +19,7 @@ use Rattle.meaning.specs.Base.{half, word, pick, same_text, when}
 use Rattle.meaning.specs.Book.{nodes, type_of, prompt_of, depend_of, spelled_name, name_ok, other_name, new_name, symbol_ok, record_ok, record_at}
 use Rattle.meaning.proofs.Below.{all_every, all_stop}
 use Rattle.meaning.proofs.Tests.{same_text_lem}
-use Rattle.names.specs.Keys.{key_of, name_key, link_of, first_mark, second_mark, Marked, last_with, link_at, Linked, Headed, AllMarked, Different, NotAmong, NewUpTo}
+use Rattle.names.specs.Keys.{key_of, name_key, link_of, first_mark, second_mark, Marked, last_with, link_at, Linked, Headed, AllMarked, Different, NotAmong}
 
 -- an empty text reads 0 everywhere
 pub none_at : (s : List ℕ) (i : ℕ) → length s ≡ 0 → get_or s i 0 ≡ 0

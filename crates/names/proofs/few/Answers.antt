@@ -1,5 +1,5 @@
 -- `names::few` meets its contract: an empty text has only bytes past its end.
-use Rattle.std.proofs.Common.{◌≡◌, ◌+◌, ◌-◌, ◌/◌, refl, arith, length, get_or}
+use Rattle.std.proofs.Common.{◌≡◌, ◌-◌, ◌/◌, refl, arith, length, get_or}
 use Rattle.names.specs.Keys.{few}
 use Rattle.names.proofs.Laws.{none_at}
 use Rattle.names.proofs.few.Goals as goal

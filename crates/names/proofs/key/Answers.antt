@@ -1,5 +1,5 @@
 -- `names::key` meets its contract: it mixes what the definition mixes, one eight at each turn.
-use Rattle.std.proofs.Common.{◌≡◌, ◌+◌, ◌-◌, ◌/◌, ◌++◌, ◌∷◌, [], refl, sym, ◌∙◌, arith, length, length-append, length-drop, ◌*◌}
+use Rattle.std.proofs.Common.{◌≡◌, ◌/◌, ◌∷◌, [], sym, ◌∙◌, arith, length, length-append, length-drop, ◌*◌}
 use borrow.Author.Tests.{lt-ltb, le-ltb}
 use Rattle.meaning.proofs.Folds.{fold_none, fold_more}
 use Rattle.names.proofs.Laws.{next_eight}

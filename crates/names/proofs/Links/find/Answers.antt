@@ -1,5 +1,5 @@
 -- `names::Links::find` meets its contract: from where the walk stands on, no name is this one, and each turn goes down by one at least.
-use Rattle.std.proofs.Common.{◌≡◌, ℕ, ◌+◌, ◌-◌, ◌<◌, ◌≤◌, arith, sym, ◌∙◌}
+use Rattle.std.proofs.Common.{◌≡◌, ◌+◌, arith, sym, ◌∙◌}
 use Rattle.meaning.proofs.Tests.{same_text_lem}
 use Rattle.names.proofs.Laws.{headed_at, start_le, walk_from, none_after, texts_differ, walk_less, walk_on, walk_passed}
 use Rattle.names.proofs.Links.find.Goals as goal

@@ -1,5 +1,5 @@
 -- `names::Links::new_ones` meets its contract: at each turn the lowest met so far is the first that a name looked up so far is.
-use Rattle.std.proofs.Common.{◌≡◌, ◌+◌, ◌-◌, sym, ◌∙◌, ap, arith}
+use Rattle.std.proofs.Common.{◌≡◌, sym, ◌∙◌, ap, arith}
 use Rattle.names.specs.Keys.{key_of}
 use Rattle.names.proofs.Laws.{unmarked, only, first_more, block_new}
 use Rattle.names.proofs.Links.new_ones.Goals as goal

@@ -1,5 +1,5 @@
 -- `names::Links::new_ones` meets its contract: at each turn the lowest met so far is the first that a name looked up so far is.
-use Rattle.std.proofs.Common.{◌+◌, ◌≤◌}
+use Rattle.std.proofs.Common.{◌≤◌}
 use Rattle.names.proofs.Laws.{First}
 use Rattle.names.proofs.Links.new_ones.Given as goal
 
