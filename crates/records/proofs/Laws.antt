@@ -42,19 +42,17 @@ module _ (m : List ℕ) (at n : ℕ) where
       let l : length m < at + n = omega (arith, length-take n (drop at m), length-drop at m, h) in
       all_stop (λ j. is_name_byte (get_or m (at + j) 0)) n (n - 1) {h = false} (omega (arith, length-take n (drop at m), h)) (rw (get_or-eq_default m 0 {n = at + (n - 1)} (omega arith))) refl
 
-  pub spelled_in : (p : Bool) {w : List ℕ} {a b : Bool} → w ≡ part m at n → a ≡ list_all is_name_byte w → b ≡ list_all is_digit w
-      → (p && eqb (length w) n && a && not b) ≡ (p && name_bytes m at n && not (digits_alone m at n))
+  pub spelled_in : (p : Bool) {w : List ℕ} {q : Bool} → w ≡ part m at n → q ≡ (list_all is_name_byte w && not (list_all is_digit w))
+      → (p && eqb (length w) n && q) ≡ (p && name_bytes m at n && not (digits_alone m at n))
   unfolding name_bytes digits_alone
-  spelled_in false ew ea eb = refl
-  spelled_in true {w} {a} {b} ew ea eb = by (eqb (length w) n) refl
+  spelled_in false ew eq = refl
+  spelled_in true {w} {q} ew eq = by (eqb (length w) n) refl
     where
-      by : (q : Bool) → eqb (length w) n ≡ q → (q && a && not b) ≡ (name_bytes m at n && not (digits_alone m at n))
+      by : (b : Bool) → eqb (length w) n ≡ b → (b && q) ≡ (name_bytes m at n && not (digits_alone m at n))
       by true e =
           let l : length w ≡ n = eqb-true _ _ e in
           let bytes : (j : ℕ) → j < n → get_or w j 0 ≡ get_or m (at + j) 0 = λ j h. ap (λ v. get_or v j 0) ew ∙ byte_in_lem j h in
-          rw (
-            ea,
-            eb,
+          eq ∙ rw (
             all_of is_name_byte w,
             all_of is_digit w,
             l,

@@ -16,4 +16,4 @@ returns c =
     let name-start = c.name_start in
     let part = c.part-name in
     let name-offset = c.name_offset in
-    spelled_in given.m.now name-start.result wide.result (leb 1 wide.result && leb wide.result 64 && leb (name-offset.result + wide.result) c.texts.result) part.ensures c.has_name_bytes.ensures c.is_number.ensures ∙ rw (name-start.ensures.0, name-offset.ensures.0, c.texts.ensures.0, wide.ensures.0, name-length.ensures)
+    spelled_in given.m.now name-start.result wide.result (leb 1 wide.result && leb wide.result 64 && leb (name-offset.result + wide.result) c.texts.result) part.ensures c.spelled_well.ensures ∙ rw (name-start.ensures.0, name-offset.ensures.0, c.texts.ensures.0, wide.ensures.0, name-length.ensures)
