@@ -5,32 +5,16 @@ use native.Mathlib.Omega.{arith}
 use native.Mathlib.Numerals.{add-one}
 use mathlib.Core.Path.{◌≡◌, refl, sym, ◌∙◌}
 use mathlib.Core.Logic.{⊎_elim}
-use mathlib.Core.Bool.{Bool, true, false}
+use mathlib.Core.Bool.{Bool, true, false, true≢false}
 use mathlib.Core.List.{List}
 use lib.Dec.{eqb, ltb}
 use lib.ListN.{length, get_or, set}
 use lib.Seq.{get_or-set_same, get_or-set_other}
 use borrow.Author.Tests.{eq-eqb, ne_eqb, eqb-true, eqb-false, ltb-true, ltb-false}
-use Rattle.meaning.specs.Base.{pick, all_below}
+use Rattle.meaning.specs.Base.{all_below}
 use Rattle.meaning.specs.Book.{member_symbol, new_member}
 use Rattle.meaning.proofs.Below.{all_none, all_more, all_stop}
 use Rattle.members.specs.Old.{Fresh, Old, FreshIn, FirstOldIn}
-
--- WHERE A SYMBOL STANDS in the block from base on
-module _ (base : ℕ) {s k : ℕ} (ek : k ≡ pick (ltb s base) 256 (s - base)) where
-  place_in : k < 256 → s ≡ base + k
-  place_in l = by (ltb s base) refl ek
-    where
-      by : (b : Bool) → ltb s base ≡ b → k ≡ pick b 256 (s - base) → s ≡ base + k
-      by true h e = absurd (omega arith)
-      by false h e = let g = ltb-false s base h in omega (arith, g)
-
-  place_out : (width : ℕ) → width ≤ 256 → width ≤ k → (a : ℕ) → a < width → s ≡ base + a → ⊥
-  place_out width lw l a la es = by (ltb s base) refl ek
-    where
-      by : (b : Bool) → ltb s base ≡ b → k ≡ pick b 256 (s - base) → ⊥
-      by true h e = let g = ltb-true s base h in absurd (omega (arith, g))
-      by false h e = absurd (omega arith)
 
 -- ONE RECORD MORE, on another symbol or on this one
 module _ (m : List ℕ) (i t : ℕ) where
@@ -48,52 +32,52 @@ module _ (m : List ℕ) (i t : ℕ) where
 
 module _ (m : List ℕ) (base width : ℕ) where
   -- the symbols of the block without a mark stand in none of the first i records, those with one in some
-  abbrev pub Marks : ℕ → List ℕ → Type 0
-  Marks i met = (k : ℕ) → k < width → (get_or met k 0 ≡ 0 → new_member m i (base + k) ≡ true) × ((get_or met k 0 ≡ 0 → ⊥) → new_member m i (base + k) ≡ false)
+  abbrev pub Marks : ℕ → List Bool → Type 0
+  Marks i met = (k : ℕ) → k < width → (get_or met k false ≡ false → new_member m i (base + k) ≡ true) × (get_or met k false ≡ true → new_member m i (base + k) ≡ false)
 
-  pub none_met : (met : List ℕ) → ((k : ℕ) → k < width → get_or met k 0 ≡ 0) → Marks 0 met
+  pub none_met : (met : List Bool) → ((k : ℕ) → k < width → get_or met k false ≡ false) → Marks 0 met
   unfolding new_member
-  none_met met zeros k l = (λ e. all_none _, λ n. absurd (n (zeros k l)))
+  none_met met zeros k l = (λ e. all_none _, λ n. absurd (true≢false (sym n ∙ zeros k l)))
 
   pub none_old : FreshIn m base (base + width) 0
   none_old i l = absurd (omega arith)
 
-  -- the turn of record i
-  module _ (met : List ℕ) (i : ℕ) {s k : ℕ} (es : s ≡ member_symbol m i) (ek : k ≡ pick (ltb s base) 256 (s - base)) (lw : width ≤ 256)
-      (all : Marks i met) (fresh : FreshIn m base (base + width) i) where
+  -- the turn of record i, which is on symbol s
+  module _ (met : List Bool) (i : ℕ) {s : ℕ} (es : s ≡ member_symbol m i) (all : Marks i met) (fresh : FreshIn m base (base + width) i) where
     next : (base ≤ member_symbol m i → member_symbol m i < base + width → Fresh m i) → FreshIn m base (base + width) (i + 1)
     next here j l lo hi =
         ⊎_elim (λ (e : j ≡ i). rw e (here (rw e at lo) (rw e at hi))) (λ k. fresh j k lo hi) (eq-or-lt_of_le (le_of_suc-le-suc (rw (add-one i) at l)))
 
-    at_k : k < width → member_symbol m i ≡ base + k
-    at_k lk = sym es ∙ place_in base ek (omega arith)
+    -- where it stands in the block, at k
+    module _ (k : ℕ) (within : base ≤ s) (lk : k < width) (ek : k ≡ s - base) where
+      at_k : member_symbol m i ≡ base + k
+      at_k = sym es ∙ omega arith
 
-    pub turn_met : k < width → get_or met k 0 ≡ 0 → length met ≡ 256 → Marks (i + 1) (set met k 1) × FreshIn m base (base + width) (i + 1)
-    turn_met lk free len = (λ a la. by a la (eqb a k) refl, next (λ lo hi. rw (at_k lk) ((all k lk).0 free)))
-      where
-        by : (a : ℕ) → a < width → (b : Bool) → eqb a k ≡ b
-            → (get_or (set met k 1) a 0 ≡ 0 → new_member m (i + 1) (base + a) ≡ true) × ((get_or (set met k 1) a 0 ≡ 0 → ⊥) → new_member m (i + 1) (base + a) ≡ false)
-        by a la true q =
-            let z : a ≡ k = eqb-true a k q in
-            let o = get_or-set_same met k 1 0 (omega arith) in
-            (λ e. absurd (omega (arith, o, rw z at e)), λ n. there m i (base + a) (at_k lk ∙ rw z))
-        by a la false q =
-            let n = eqb-false a k q in
-            let o = get_or-set_other met k a 1 0 n in
-            (λ e. more m i (base + a) ((all a la).0 (sym o ∙ e)) (λ h. n (omega (arith, at_k lk))), λ e. still m i (base + a) ((all a la).1 (λ z. e (o ∙ z))))
+      pub turn_met : get_or met k false ≡ false → width ≤ length met → Marks (i + 1) (set met k true) × FreshIn m base (base + width) (i + 1)
+      turn_met free len = (λ a la. by a la (eqb a k) refl, next (λ lo hi. rw at_k ((all k lk).0 free)))
+        where
+          by : (a : ℕ) → a < width → (b : Bool) → eqb a k ≡ b
+              → (get_or (set met k true) a false ≡ false → new_member m (i + 1) (base + a) ≡ true)
+              × (get_or (set met k true) a false ≡ true → new_member m (i + 1) (base + a) ≡ false)
+          by a la true q =
+              let z : a ≡ k = eqb-true a k q in
+              let o = get_or-set_same met k true false (omega arith) in
+              (λ e. absurd (true≢false (sym o ∙ (rw z at e))), λ n. there m i (base + a) (at_k ∙ rw z))
+          by a la false q =
+              let n = eqb-false a k q in
+              let o = get_or-set_other met k a true false n in
+              (λ e. more m i (base + a) ((all a la).0 (sym o ∙ e)) (λ h. n (omega (arith, at_k))), λ e. still m i (base + a) ((all a la).1 (sym o ∙ e)))
 
-    pub turn_out : width ≤ k → Marks (i + 1) met × FreshIn m base (base + width) (i + 1)
-    turn_out lk =
-        let out = place_out base ek width lw lk in (
-          λ a la. (λ e. more m i (base + a) ((all a la).0 e) (λ h. out a la (es ∙ h)), λ e. still m i (base + a) ((all a la).1 e)),
-          next (λ lo hi. absurd (out (s - base) (omega arith) (omega arith))),
-        )
+      -- a marked one is met again
+      pub turn_twice : (n : ℕ) → i < n → get_or met k false ≡ true → FirstOldIn m base (base + width) n i
+      turn_twice n l marked =
+          record { within = omega arith; before = fresh; old = λ q. (omega (arith, at_k), omega (arith, at_k), rw at_k ((all k lk).1 marked)) }
 
-    -- a marked one is met again
-    pub turn_twice : (n : ℕ) → i < n → k < width → (get_or met k 0 ≡ 0 → ⊥) → FirstOldIn m base (base + width) n i
-    turn_twice n l lk marked =
-        let e = at_k lk in
-        record { within = omega arith; before = fresh; old = λ q. (omega (arith, e), omega (arith, e), rw e ((all k lk).1 marked)) }
+    pub turn_out : ((base ≤ s) × (s - base < width) → ⊥) → Marks (i + 1) met × FreshIn m base (base + width) (i + 1)
+    turn_out out = (
+      λ a la. (λ e. more m i (base + a) ((all a la).0 e) (λ h. out (omega (arith, es, h), omega (arith, es, h))), λ e. still m i (base + a) ((all a la).1 e)),
+      next (λ lo hi. absurd (out (omega (arith, es), omega (arith, es)))),
+    )
 
   -- BLOCK BY BLOCK: among the symbols below the block, then among those below the next; the block's pass goes up to the first found so far
   pub block_more : (n : ℕ) {r q : ℕ} → FirstOldIn m 0 base n r → FirstOldIn m base (base + width) r q → FirstOldIn m 0 (base + width) n q

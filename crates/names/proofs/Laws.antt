@@ -1,28 +1,49 @@
 -- Names that are alike, links from each name of a block to the one before it of its link, what a walk along them shows, and the rooms of a block. Assumes nothing.
 use mathlib.Core.Path.{◌≡◌, refl, sym, ◌∙◌, ap}
 use mathlib.Core.Bool.{Bool, true, false, ◌&&◌, not, true≢false}
-use mathlib.Core.List.{List, [], ◌∷◌}
+use mathlib.Core.List.{List, [], ◌∷◌, ◌++◌}
 use mathlib.Core.Logic.{⊎_elim}
-use Prim.Native.Nat.{ℕ, zero, suc, ◌+◌, ◌-◌, ◌/◌, ◌%◌, ◌≤◌, ◌<◌}
+use Prim.Native.Nat.{ℕ, zero, suc, ◌+◌, ◌-◌, ◌*◌, ◌≤◌, ◌<◌}
 use native.Mathlib.Nat.{eq-or-lt_of_le, le_of_suc-le-suc}
 use native.Mathlib.Omega.{arith}
 use native.Mathlib.Numerals.{add-one}
 use lib.Dec.{eqb, leb, ltb}
-use lib.ListN.{length, get_or, set, replicate, get_or-replicate, length-set, get_or-eq_default}
-use lib.Seq.{get_or-set_same, get_or-set_other}
+use lib.ListN.{length, drop, get_or, get_or-append, length-append, length-drop, set, replicate, get_or-replicate, get_or-eq_default}
+use lib.Seq.{drop-append_seam, get_or-drop, get_or-set_same, get_or-set_other}
 use borrow.Author.Tests.{eq-eqb, eqb-true, eqb-false, ltb-true, ltb-false}
 use borrow.Author.Count.{below_more}
+use Rattle.std.proofs.lemmas.List.{drop-drop}
+use Rattle.std.specs.Prelude.{Option, Some, None, is_some, MatchOption}
 use Rattle.meaning.specs.Base.{Fault}
-use Rattle.meaning.specs.Base.{pick, same_text, when}
+use Rattle.meaning.specs.Base.{half, word, pick, same_text, when}
 use Rattle.meaning.specs.Book.{nodes, type_of, prompt_of, depend_of, spelled_name, name_ok, other_name, new_name, symbol_ok, record_ok, record_at}
 use Rattle.meaning.proofs.Below.{all_every, all_stop}
 use Rattle.meaning.proofs.Tests.{same_text_lem}
-use Rattle.names.specs.Keys.{key_of, name_key, link_of, first_mark, second_mark, Marked, Adds, last_with, link_at, Linked, Headed, AllMarked, Different, Walk}
-use Rattle.names.proofs.Marks.{mark_stays, mark_new}
+use Rattle.names.specs.Keys.{key_of, name_key, link_of, first_mark, second_mark, Marked, last_with, link_at, Linked, Headed, AllMarked, Different, NotAmong}
 
 -- an empty text reads 0 everywhere
 pub none_at : (s : List ℕ) (i : ℕ) → length s ≡ 0 → get_or s i 0 ≡ 0
 none_at s i e = get_or-eq_default s 0 (omega arith)
+
+-- EIGHTS: the next eight bytes of a text, and what is left of it behind them
+pub next_eight : (name eight rest : List ℕ) (k : ℕ) → drop (8 * k) name ≡ eight ++ rest → length eight ≡ 8
+    → (rest ≡ drop (8 * (k + 1)) name) × (word eight 0 ≡ word name (8 * k)) × (word eight 4 ≡ word name (8 * k + 4)) × (8 * (k + 1) ≤ length name)
+unfolding word half
+next_eight name eight rest k e size = (
+  sym cut ∙ drop-drop 8 (8 * k) name ∙ ap (λ i. drop i name) on,
+  omega (arith, at 0 (8 * k) (omega arith) (omega arith), at 1 (8 * k + 1) (omega arith) refl, at 2 (8 * k + 2) (omega arith) refl, at 3 (8 * k + 2 + 1) (omega arith) (omega arith)),
+  omega (arith, at 4 (8 * k + 4) (omega arith) refl, at 5 (8 * k + 4 + 1) (omega arith) (omega arith), at 6 (8 * k + 4 + 2) (omega arith) (omega arith), at 7 (8 * k + 4 + 2 + 1) (omega arith) (omega arith)),
+  omega (arith, ap length e, length-drop (8 * k) name, length-append eight rest, size),
+)
+  where
+    on : 8 * k + 8 ≡ 8 * (k + 1)
+    on = omega arith
+
+    cut : drop 8 (drop (8 * k) name) ≡ rest
+    cut = rw e (rw size at (drop-append_seam eight rest))
+
+    at : (i j : ℕ) → i < 8 → j ≡ 8 * k + i → get_or eight i 0 ≡ get_or name j 0
+    at i j l h = sym (get_or-append eight rest 0 i (omega (arith, size))) ∙ ap (λ v. get_or v i 0) (sym e) ∙ get_or-drop (8 * k) name i 0 ∙ ap (λ a. get_or name a 0) (sym h)
 
 -- NAMES. A text is the same as itself, so two that are not the same are not equal
 same_self : (a : List ℕ) → same_text a a ≡ true
@@ -45,6 +66,16 @@ name_new m s all = all_every (other_name m s) s (λ e l. by e l (same_text (spel
 pub name_old : (m : List ℕ) (s e : ℕ) → e < s → spelled_name m e ≡ spelled_name m s → new_name m s ≡ false
 unfolding new_name other_name
 name_old m s e l q = sym (all_stop (other_name m s) s e {h = false} l (rw (q, same_self (spelled_name m s))) refl)
+
+-- nor where a search among those before it in its block found one
+pub met_old : (m : List ℕ) (base k : ℕ) (w : List ℕ) (P : Type 0) (o : Option ℕ) → is_some o ≡ true → w ≡ spelled_name m (base + k)
+    → MatchOption o P (λ j. (j < k) × (w ≡ spelled_name m (base + j))) → new_name m (base + k) ≡ false
+met_old m base k w P None h ew found = absurd (cc)
+met_old m base k w P (Some j) h ew found = name_old m (base + k) (base + j) (omega (arith, found.0)) (sym found.1 ∙ ew)
+
+pub met_none : {P : Type 0} (Q : ℕ → Type 0) (o : Option ℕ) → is_some o ≡ false → MatchOption o P Q → P
+met_none Q None h none = none
+met_none Q (Some j) h found = absurd (cc)
 
 -- LINKS: the last of the first k numbers at which f is b
 module _ (f : ℕ → ℕ) (b : ℕ) where
@@ -77,53 +108,53 @@ module _ (f : ℕ → ℕ) (b : ℕ) where
 
 -- A WALK along the links for the name w: from where it stands it goes down, and passes no name that is w
 module _ (m : List ℕ) (base : ℕ) (nexts w : List ℕ) where
+  -- it can stand at c: that is 0, or one past a name of w's link, and the names below it are linked
+  abbrev pub Walk : ℕ → ℕ → Type 0
+  Walk factor c = Linked factor m base nexts c × ((j : ℕ) → c ≡ suc j → link_at factor m base j ≡ link_of (key_of factor w))
+
   -- it starts at the last of the first k names that has w's link; all after that one are others
   module _ (factor k : ℕ) {c : ℕ} (e : c ≡ last_with (link_at factor m base) (link_of (key_of factor w)) k) where
     pub start_le : c ≤ k
     start_le = omega (arith, e, last_le (link_at factor m base) (link_of (key_of factor w)) k)
 
-    pub walk_from : Linked factor m base nexts k → Walk m base nexts w c
+    pub walk_from : Linked factor m base nexts k → Walk factor c
     walk_from linked = (
-      factor,
       λ j l. linked j (omega (arith, start_le)),
       λ j q. last_at (link_at factor m base) (link_of (key_of factor w)) k j (sym e ∙ q),
     )
 
-    none_after : (j : ℕ) → c ≤ j → j < k → w ≡ spelled_name m (base + j) → ⊥
+    pub none_after : (j : ℕ) → c ≤ j → j < k → w ≡ spelled_name m (base + j) → ⊥
     none_after j l h q =
         last_above (link_at factor m base) (link_of (key_of factor w)) k j (omega (arith, e)) h (ap (λ v. link_of (key_of factor v)) (sym q))
 
-    pub none_of : ((j : ℕ) → j < c → w ≡ spelled_name m (base + j) → ⊥) → (j : ℕ) → j < k → w ≡ spelled_name m (base + j) → ⊥
-    none_of below j l = by (ltb j c) refl
-      where
-        by : (q : Bool) → ltb j c ≡ q → w ≡ spelled_name m (base + j) → ⊥
-        by true x = below j (ltb-true _ _ x)
-        by false x = none_after j (ltb-false _ _ x) l
-
-  -- one step on
-  module _ (c : ℕ) {v : ℕ} (pos : 0 < c) (at : Walk m base nexts w c) (ev : v ≡ get_or nexts (c - 1) 0) where
-    next : v ≡ last_with (link_at at.0 m base) (link_of (key_of at.0 w)) (c - 1)
-    next = ev ∙ at.1 (c - 1) (omega arith) ∙ ap (λ b. last_with (link_at at.0 m base) b (c - 1)) (at.2 (c - 1) (omega arith))
+  -- one step on, from c, which is one past j
+  module _ (factor c j : ℕ) {v : ℕ} (here : c ≡ j + 1) (at : Walk factor c) (ev : v ≡ get_or nexts j 0) where
+    next : v ≡ last_with (link_at factor m base) (link_of (key_of factor w)) j
+    next = ev ∙ at.0 j (omega arith) ∙ ap (λ b. last_with (link_at factor m base) b j) (at.1 j (omega arith))
 
     pub walk_less : v < c
-    walk_less = omega (arith, start_le at.0 (c - 1) next)
+    walk_less = omega (arith, start_le factor j next)
 
-    pub walk_on : Walk m base nexts w v
-    walk_on = walk_from at.0 (c - 1) next (λ j l. at.1 j (omega arith))
+    pub walk_on : Walk factor v
+    walk_on = walk_from factor j next (λ i l. at.0 i (omega arith))
 
-    pub walk_passed : (n : ℕ) → (w ≡ spelled_name m (base + (c - 1)) → ⊥) → ((j : ℕ) → c ≤ j → j < n → w ≡ spelled_name m (base + j) → ⊥)
-        → (j : ℕ) → v ≤ j → j < n → w ≡ spelled_name m (base + j) → ⊥
-    walk_passed n here above j l h = by (ltb j (c - 1)) refl
+    pub walk_passed : (n : ℕ) → (w ≡ spelled_name m (base + j) → ⊥) → ((i : ℕ) → c ≤ i → i < n → w ≡ spelled_name m (base + i) → ⊥)
+        → (i : ℕ) → v ≤ i → i < n → w ≡ spelled_name m (base + i) → ⊥
+    walk_passed n other above i l h = by (ltb i j) refl
       where
-        by : (q : Bool) → ltb j (c - 1) ≡ q → w ≡ spelled_name m (base + j) → ⊥
-        by true x = none_after at.0 (c - 1) next j l (ltb-true _ _ x)
-        by false x = ⊎_elim (λ (y : c - 1 ≡ j). rw (← y) here) (λ y. above j (omega (arith, y)) h) (eq-or-lt_of_le {n = c - 1} {m = j} (ltb-false _ _ x))
+        by : (q : Bool) → ltb i j ≡ q → w ≡ spelled_name m (base + i) → ⊥
+        by true x = none_after factor j next i l (ltb-true _ _ x)
+        by false x = ⊎_elim (λ (y : j ≡ i). rw (← y) other) (λ y. above i (omega (arith, y)) h) (eq-or-lt_of_le {n = j} {m = i} (ltb-false _ _ x))
 
 -- THE ROOMS of a block: before the first turn
 module _ (factor : ℕ) (m : List ℕ) (base : ℕ) where
   pub no_heads : Headed factor m base (replicate 128 0) 0
   unfolding last_with
   no_heads b l = get_or-replicate 128 b 0 0 l
+
+  -- what stands behind them is nothing to the first k
+  pub linked_still : (k : ℕ) (nexts : List ℕ) (v : ℕ) → Linked factor m base nexts k → Linked factor m base (set nexts k v) k
+  linked_still k nexts v all j n = get_or-set_other nexts k j v 0 (λ u. absurd (let z : j ≡ k = u in omega arith)) ∙ all j n
 
   -- after that of its name k, whose key is x
   module _ (k : ℕ) {x : ℕ} (ex : x ≡ name_key factor m (base + k)) where
@@ -143,29 +174,15 @@ module _ (factor : ℕ) (m : List ℕ) (base : ℕ) where
         → Linked factor m base (set nexts k v) (k + 1)
     linked_more heads nexts {h} {v} e lh ev l headed all =
         below_more (λ j. get_or (set nexts k v) j 0 ≡ last_with (link_at factor m base) (link_at factor m base j) j) k
-        (λ j n. get_or-set_other nexts k j v 0 (λ u. absurd (let z : j ≡ k = u in omega arith)) ∙ all j n)
+        (linked_still k nexts v all)
         (get_or-set_same nexts k v 0 l ∙ ev ∙ headed h lh ∙ ap (λ b. last_with (link_at factor m base) b k) (e ∙ ap link_of ex))
 
-    pub marked_more :
-        (marks : List ℕ) (r s : ℕ) {f g : ℕ} → f ≡ first_mark x → g ≡ second_mark x → length marks ≡ 256 → Adds (get_or marks (f / 8) 0) (f % 8) r
-        → Adds (get_or (set marks (f / 8) r) (g / 8) 0) (g % 8) s → AllMarked factor m base marks k
-        → AllMarked factor m base (set (set marks (f / 8) r) (g / 8) s) (k + 1)
-    marked_more marks r s {f} {g} ef eg size one two all =
-        below_more (λ j. Marked both (first_mark (name_key factor m (base + j))) × Marked both (second_mark (name_key factor m (base + j)))) k
+    pub marked_more : (old new : List ℕ) → ((h : ℕ) → Marked old h → Marked new h) → Marked new (first_mark x) × Marked new (second_mark x)
+        → AllMarked factor m base old k → AllMarked factor m base new (k + 1)
+    marked_more old new stays here all =
+        below_more (λ j. Marked new (first_mark (name_key factor m (base + j))) × Marked new (second_mark (name_key factor m (base + j)))) k
         (λ j n. (stays _ (all j n).0, stays _ (all j n).1))
-        (rw (← ex, ← ef, ← eg) (mark_stays (set marks (f / 8) r) (g / 8) (g % 8) s f in_two two (mark_new marks f r in_one one), mark_new (set marks (f / 8) r) g s in_two two))
-      where
-        both : List ℕ
-        both = set (set marks (f / 8) r) (g / 8) s
-
-        in_one : f / 8 < length marks
-        in_one = omega (arith, ef, size)
-
-        in_two : g / 8 < length (set marks (f / 8) r)
-        in_two = rw length-set (omega (arith, eg, size))
-
-        stays : (h : ℕ) → Marked marks h → Marked both h
-        stays h e = mark_stays (set marks (f / 8) r) (g / 8) (g % 8) s h in_two two (mark_stays marks (f / 8) (f % 8) r h in_one one e)
+        (rw (← ex) here)
 
   -- so a name that has not both its marks is none of theirs
   pub unmarked : (marks : List ℕ) (n e : ℕ) {x : ℕ} → AllMarked factor m base marks n → x ≡ name_key factor m e
@@ -189,15 +206,9 @@ module _ (m : List ℕ) (base : ℕ) where
       (λ y. all i j l y e)
       (eq-or-lt_of_le (le_of_suc-le-suc (rw (add-one k) at h)))
 
-  -- a walk for w that stopped at r, or at 224 with none met, passed none before r that is w
-  pub none_before : (factor k r : ℕ) (w : List ℕ) {v : ℕ} → v ≡ last_with (link_at factor m base) (link_of (key_of factor w)) k → Different m base k → r ≤ 224
-      → (r < 224 → (r < v) × (w ≡ spelled_name m (base + r))) → (r ≡ 224 → (j : ℕ) → j < v → w ≡ spelled_name m (base + j) → ⊥)
-      → (j : ℕ) → j < r → j < k → w ≡ spelled_name m (base + j) → ⊥
-  none_before factor k r w start all l found none j h n e =
-      ⊎_elim
-      (λ (y : r ≡ 224). none_of m base [] w factor k start (none y) j n e)
-      (λ y. all j r h (omega (arith, (found y).0, start_le m base [] w factor k start)) (sym e ∙ (found y).1))
-      (eq-or-lt_of_le l)
+  -- of the first k only name r is w
+  pub only : (k r : ℕ) {w : List ℕ} → Different m base k → r < k → w ≡ spelled_name m (base + r) → NotAmong m base w r
+  only k r all l e j h z = all j r h l (sym z ∙ e)
 
   -- f is the first of the first k that a name before e is, or k
   abbrev pub Others : ℕ → ℕ → Type 0

@@ -1,7 +1,7 @@
 -- The keys by which the names of a block are linked and looked up. Assumes nothing: these are definitions.
-use Rattle.std.specs.Prelude.{ℕ, zero, suc, ◌+◌, ◌-◌, ◌*◌, ◌/◌, ◌%◌, ◌^◌, ◌<◌, ◌≡◌, List, eqb, ltb, length, get_or}
+use Rattle.std.specs.Prelude.{ℕ, zero, suc, ◌+◌, ◌-◌, ◌*◌, ◌/◌, ◌%◌, ◌^◌, ◌<◌, ◌≤◌, ◌≡◌, true, List, eqb, ltb, length, get_or}
 use Rattle.meaning.specs.Base.{pick, fold, word}
-use Rattle.meaning.specs.Book.{spelled_name}
+use Rattle.meaning.specs.Book.{spelled_name, new_name}
 
 -- a key so far, and eight bytes more
 unfoldable pub mix : ℕ → ℕ → ℕ → ℕ → ℕ
@@ -77,6 +77,10 @@ module _ (m : List ℕ) (base : ℕ) where
   abbrev pub Different : ℕ → Type 0
   Different k = (i j : ℕ) → i < j → j < k → spelled_name m (base + i) ≡ spelled_name m (base + j) → ⊥
 
-  -- a walk for the name w can start at c: it is 0, or one past a name of w's link, and the names below it are linked, by whatever factor
-  abbrev pub Walk : List ℕ → List ℕ → ℕ → Type 0
-  Walk nexts w c = (factor : ℕ) × Linked factor m base nexts c × ((j : ℕ) → c ≡ suc j → link_at factor m base j ≡ link_of (key_of factor w))
+  -- the name w is none of the first k of the block
+  abbrev pub NotAmong : List ℕ → ℕ → Type 0
+  NotAmong w k = (j : ℕ) → j < k → w ≡ spelled_name m (base + j) → ⊥
+
+  -- the first r names of the block are new
+  abbrev pub NewUpTo : ℕ → Type 0
+  NewUpTo r = (s : ℕ) → base ≤ s → s < base + r → new_name m s ≡ true

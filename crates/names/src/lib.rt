@@ -4,42 +4,49 @@
 // is looked up. Names are compared only where their links are the same. A block in which many are is linked again, by other keys.
 #![tactic(auto)]
 
-ghost use Rattle.std.specs.Prelude.{◌≡◌, true, false, ℕ, ◌+◌, ◌/◌, ◌^◌, min, ◌<◌, ◌≤◌, length};
+ghost use Rattle.std.specs.Prelude.{◌≡◌, true, false, ℕ, ◌+◌, ◌/◌, ◌%◌, ◌^◌, ◌<◌, ◌≤◌, length, eqb, get_or, set, replicate, IfOk, IfErr, MatchOption};
 ghost use Rattle.meaning.specs.Base.{Clean};
 ghost use Rattle.meaning.specs.Base.{word, first_below};
 ghost use Rattle.meaning.specs.Book.{start as start_of, text_start, spelled_name, new_name, record_at, section_fault};
-ghost use Rattle.names.specs.Keys.{mix, few as few_of, key_of, link_of, first_mark, second_mark, Marked, Adds, Linked, Headed, AllMarked, Different, Walk};
+ghost use Rattle.names.specs.Keys.{mix, few as few_of, key_of, name_key, link_of, first_mark, second_mark, bit_at, Marked, Linked, Headed, AllMarked, Different, NotAmong, NewUpTo};
 
 use meaning::{Outcome, Refusal, refuse_with, refuse_with_if};
 
-// How many names a block has at most. No name of a block has this number, so it is also the answer where none is found.
+// How many names a block has at most.
 const BLOCK: usize = 224;
 
-// The answer where more names had to be compared at once than a try allows.
-const CROWDED: usize = 225;
+// How many tries a block has, and how many names a limited one may compare with one: each is limited but the last.
+const TRIES: usize = 8;
 
-// The answer where more names had to be looked up than a try allows.
-const BUSY: usize = 225;
-
-// How many a try allows, but for the last one, which allows any number.
 const MOST: usize = 10;
-
-const LAST_TRY: usize = 7;
 
 // What a key is kept below while it is made, and its last factor, which spreads it.
 const MODULUS: usize = 4294967296;
 
 const LAST_FACTOR: usize = 1640532007;
 
+// Where a key has its link, and its two marks.
+const LINK: usize = 1073741824;
+
+const FIRST_MARK: usize = 67108864;
+
+const SECOND_MARK: usize = 32768;
+
+// How many links there are, and how many marks.
+const LINKS: usize = 128;
+
+const MARKS: usize = 2048;
+
+// The refusal of a try that would have to compare or look up more names than it may.
+#[derive(Clone, Copy)]
+struct Busy;
+
 // Four bytes as a number.
 fn four(s: &[u8], i: usize) -> usize
     requires { i + 4 ≤ length s.now }
     ensures { (result ≡ word s.now i) × (result < 4294967296) }
 {
-    raw::wide(s[i])
-        + 256 * raw::wide(s[i + 1])
-        + 65536 * raw::wide(s[i + 2])
-        + 16777216 * raw::wide(s[i + 3])
+    u32::from_le_bytes([s[i], s[i + 1], s[i + 2], s[i + 3]]) as usize
 }
 
 // A key so far, and eight bytes more: each four of a name go in with a power of the factor of their own.
@@ -54,11 +61,10 @@ fn mixed(sum: usize, factor: usize, low: usize, high: usize) -> usize
 fn few(s: &[u8]) -> usize
     ensures { (result ≡ few_of s.now) × (result < 16777216) }
 {
-    let n = s.len();
-    if n == 0 {
+    let Some(last) = s.last() else {
         return 0;
-    }
-    raw::wide(s[0]) + 256 * raw::wide(s[n / 2]) + 65536 * raw::wide(s[n - 1])
+    };
+    raw::wide(s[0]) + 256 * raw::wide(s[s.len() / 2]) + 65536 * raw::wide(*last)
 }
 
 // A name's key.
@@ -74,58 +80,18 @@ fn key(name: &[u8], factor: usize) -> usize
         return mixed(n, factor, four(name, 0), four(name, n - 4)) * LAST_FACTOR;
     }
     let mut sum = n;
-    let words = n / 8;
-    for k in 0..words {
-        sum = mixed(sum, factor, four(name, 8 * k), four(name, 8 * k + 4));
+    for eight in name.chunks_exact(8) {
+        sum = mixed(sum, factor, four(eight, 0), four(eight, 4));
     }
     mixed(sum, factor, four(name, n - 8), four(name, n - 4)) * LAST_FACTOR
 }
 
-// A key's link.
-fn link(x: usize) -> usize
-    ensures { (result ≡ link_of x) × (result < 128) }
+// The part of a key that counts in units, below SIZE.
+fn part<const UNIT: usize, const SIZE: usize>(key: usize) -> usize
+    requires { (0 < UNIT) × (0 < SIZE) }
+    ensures { (result ≡ key / UNIT % SIZE) × (result < SIZE) }
 {
-    x / 1073741824 % 128
-}
-
-// A key's first mark.
-fn first_mark(x: usize) -> usize
-    ensures { (result ≡ first_mark x) × (result < 2048) }
-{
-    x / 67108864 % 2048
-}
-
-// A key's second mark.
-fn second_mark(x: usize) -> usize
-    ensures { (result ≡ second_mark x) × (result < 2048) }
-{
-    x / 32768 % 2048
-}
-
-// The bits of a byte from p on.
-fn bits_from(b: u8, p: usize) -> u8
-    requires { p < 8 }
-    ensures { result ≡ b / 2 ^ p }
-{
-    b >> p
-}
-
-// A byte with bit p set too.
-fn with_bit(b: u8, p: usize) -> u8
-    requires { p < 8 }
-    ensures { Adds b p result }
-{
-    b | (1u8 << p)
-}
-
-// Whether a key may be that of a name of the block: both its marks are set.
-fn maybe(marks: &[u8; 256], x: usize) -> bool
-    ensures { result ≡ false → Marked marks.now (first_mark x) × Marked marks.now (second_mark x) → ⊥ }
-{
-    let f = first_mark(x);
-    let g = second_mark(x);
-    let both = bits_from(marks[f / 8], f % 8) & bits_from(marks[g / 8], g % 8);
-    both % 2 == 1
+    key / UNIT % SIZE
 }
 
 // What the keys of try c are made with.
@@ -136,138 +102,243 @@ fn factor_of(c: usize) -> usize
     1000000007 + 100000006 * c
 }
 
-// Which name of the block is `name`, of those on the walk that starts at `from`: BLOCK if none is, CROWDED if more than `most` had to be compared.
-fn seen(
-    m: &[u8],
-    symbols: usize,
-    texts: usize,
-    base: usize,
-    nexts: &[u8; BLOCK],
-    name: &[u8],
-    from: usize,
-    most: usize,
-) -> usize
-    requires { (symbols ≡ start_of m.now 1) × (symbols < 65536) × (texts ≡ text_start m.now) × (texts < 65536) × (base < 65536) × (from ≤ 224) × Walk m.now base nexts.now name.now from }
-    ensures { (result < 224 → (result < from) × (name.now ≡ spelled_name m.now (base + result))) × (result ≡ 224 → (j : ℕ) → j < from → name.now ≡ spelled_name m.now (base + j) → ⊥) × (result ≤ 225) × (224 ≤ most → result ≤ 224) }
-{
-    let mut c = from;
-    let mut left = most;
-    while 0 < c {
-        if left == 0 {
-            return CROWDED;
-        }
-        let j = c - 1;
-        if raw::same(name, fields::name_from(m, symbols, texts, base + j)) {
-            return j;
-        }
-        c = raw::wide(nexts[j]);
-        left -= 1;
+// A set of marks, each a bit.
+#[derive(Drop)]
+struct Marks {
+    bytes: [u8; 256],
+}
+
+impl Marks {
+    // Whether mark h is set.
+    fn has(&self, h: usize) -> bool
+        requires { h < 2048 }
+        ensures { result ≡ eqb (bit_at (get_or self.now.bytes (h / 8) 0) (h % 8)) 1 }
+    {
+        (self.bytes[h / 8] >> (h % 8)) % 2 == 1
     }
-    BLOCK
+
+    // Sets mark h too.
+    fn add(&mut self, h: usize)
+        requires { h < 2048 }
+        ensures { Marked self.new.bytes h × ((q : ℕ) → Marked self.old.bytes q → Marked self.new.bytes q) }
+    {
+        self.bytes[h / 8] |= 1u8 << (h % 8);
+    }
 }
 
-// The smaller of two numbers.
-fn lower(a: usize, b: usize) -> usize
-    ensures { result ≡ min a b }
-{
-    if b < a { b } else { a }
-}
-
-// How many names before the block a try may compare with one of the block: a quarter of them and some more, the last try all.
-fn lookups(base: usize, most: usize) -> usize
-    requires { base < 65536 }
-    ensures { 224 ≤ most → base ≤ result }
-{
-    if most < BLOCK { base / 4 + 64 } else { base }
-}
-
-// Which of the first k names of the block, all different, is the first that a name before the block is: k if none is, BUSY if more names
-// had to be looked up than a try allows.
-fn earlier(
-    m: &[u8],
+// The book, where its symbols and its texts start, and the first symbol of a block.
+#[derive(Clone, Copy)]
+struct Block<'a> {
+    m: &'a [u8],
     symbols: usize,
     texts: usize,
     base: usize,
-    k: usize,
+    ghost symbols_start: { (symbols ≡ start_of m.now 1) × (symbols < 65536) },
+    ghost texts_start: { (texts ≡ text_start m.now) × (texts < 65536) },
+    ghost early: { base < 65536 },
+}
+
+impl<'a> Block<'a> {
+    // The block from symbol base on.
+    fn new(m: &'a [u8], base: usize) -> Self
+        requires { base < 65536 }
+        ensures { (result.m.now ≡ m.now) × (result.base ≡ base) }
+    {
+        Block {
+            m,
+            symbols: fields::start(m, 1),
+            texts: fields::text_start(m),
+            base,
+        }
+    }
+
+    // The name of symbol s, of the block or not.
+    fn name(&self, s: usize) -> &'a [u8]
+        requires { s < 2 ^ 32 }
+        ensures { (result.now ≡ spelled_name self.now.m.now s) × (length result.now < 256) }
+    {
+        fields::name_from(self.m, self.symbols, self.texts, s)
+    }
+}
+
+// The rooms in which the names of a block are linked, and their marks.
+#[derive(Drop)]
+struct Rooms {
+    heads: [u8; LINKS],
+    marks: Marks,
+    nexts: [u8; BLOCK],
+    ghost sizes: { (length heads ≡ 128) × (length nexts ≡ 224) },
+}
+
+impl Rooms {
+    // Rooms with no name in them.
+    fn new() -> Self
+        ensures { result.heads ≡ replicate 128 0 }
+    {
+        Rooms {
+            heads: [0; LINKS],
+            marks: Marks { bytes: [0; 256] },
+            nexts: [0; BLOCK],
+        }
+    }
+
+    // Writes name k down, by its key: which name of its link comes next, and its marks.
+    fn add(&mut self, k: usize, key: usize)
+        requires { k < 224 }
+        ensures heads { self.new.heads ≡ self.old.heads }
+        ensures nexts { self.new.nexts ≡ set self.old.nexts k (get_or self.old.heads (link_of key) 0) }
+        ensures marked { Marked self.new.marks.bytes (first_mark key) × Marked self.new.marks.bytes (second_mark key) }
+        ensures keeps { (h : ℕ) → Marked self.old.marks.bytes h → Marked self.new.marks.bytes h }
+    {
+        self.nexts[k] = self.heads[part::<LINK, LINKS>(key)];
+        self.marks.add(part::<FIRST_MARK, MARKS>(key));
+        self.marks.add(part::<SECOND_MARK, MARKS>(key));
+    }
+
+    // Has the link of this key start at name k.
+    fn head(&mut self, k: usize, key: usize)
+        requires { k < 224 }
+        ensures heads { self.new.heads ≡ set self.old.heads (link_of key) (k + 1) }
+        ensures others { (self.new.nexts ≡ self.old.nexts) × (self.new.marks ≡ self.old.marks) }
+    {
+        self.heads[part::<LINK, LINKS>(key)] = (k + 1) as u8;
+    }
+}
+
+// The first `count` names of a block, all different: each is linked to the one before it of its link, and has both its marks.
+#[derive(Clone, Copy)]
+struct Links<'a> {
+    block: Block<'a>,
     factor: usize,
-    most: usize,
-    heads: &[u8; 128],
-    marks: &[u8; 256],
-    nexts: &[u8; BLOCK],
-) -> usize
-    requires { (symbols ≡ start_of m.now 1) × (symbols < 65536) × (texts ≡ text_start m.now) × (texts < 65536) × (base < 65536) × (k ≤ 224) × (factor < 2147483648) × Headed factor m.now base heads.now k × Linked factor m.now base nexts.now k × AllMarked factor m.now base marks.now k × Different m.now base k }
-    ensures { (result ≤ 224 → (result ≤ k) × ((e : ℕ) → e < base → (j : ℕ) → j < result → spelled_name m.now e ≡ spelled_name m.now (base + j) → ⊥) × (result < k → new_name m.now (base + result) ≡ false)) × (224 ≤ most → result ≤ 224) }
-{
-    let mut first = k;
-    let mut left = lookups(base, most);
-    for e in 0..base {
-        let name = fields::name_from(m, symbols, texts, e);
-        let x = key(name, factor);
-        if maybe(marks, x) {
-            if left == 0 {
-                return BUSY;
+    count: usize,
+    rooms: &'a Rooms,
+    ghost small: { factor < 2147483648 },
+    ghost few: { count ≤ 224 },
+    ghost headed: { Headed factor block.m.now block.base rooms.now.heads count },
+    ghost linked: { Linked factor block.m.now block.base rooms.now.nexts count },
+    ghost marked: { AllMarked factor block.m.now block.base rooms.now.marks.bytes count },
+    ghost different: { Different block.m.now block.base count },
+}
+
+impl<'a> Links<'a> {
+    // Links the n names of the block up to the first that is one of those before it.
+    fn new(
+        block: Block<'a>,
+        n: usize,
+        factor: usize,
+        limited: bool,
+        rooms: &'a mut Rooms,
+    ) -> Result<Self, Busy>
+        requires { (n ≤ 224) × (factor < 2147483648) × (rooms.old.heads ≡ replicate 128 0) }
+        ensures stopped { IfOk result (λ r. (r.block ≡ block.entry) × (r.count ≤ n) × (r.count < n → new_name block.entry.m.now (block.entry.base + r.count) ≡ false)) }
+        ensures busy { IfErr result (λ _. limited ≡ true) }
+    {
+        for k in 0..n {
+            let name = block.name(block.base + k);
+            let x = key(name, factor);
+            rooms.add(k, x);
+            let links = Links {
+                block,
+                factor,
+                count: k,
+                rooms: &*rooms,
+            };
+            if links.find(name, x, limited)?.is_some() {
+                return Ok(Links {
+                    block,
+                    factor,
+                    count: k,
+                    rooms: &*rooms,
+                });
             }
-            left -= 1;
-            let from = raw::wide(heads[link(x)]);
-            let j = seen(m, symbols, texts, base, nexts, name, from, BLOCK);
-            first = lower(first, j);
+            rooms.head(k, x);
         }
+        Ok(Links {
+            block,
+            factor,
+            count: n,
+            rooms: &*rooms,
+        })
     }
-    first
+
+    // Whether a key may be that of a linked name: both its marks are set.
+    fn may_have(&self, key: usize) -> bool
+        ensures { result ≡ false → Marked self.now.rooms.now.marks.bytes (first_mark key) × Marked self.now.rooms.now.marks.bytes (second_mark key) → ⊥ }
+    {
+        let marks = &self.rooms.marks;
+        marks.has(part::<FIRST_MARK, MARKS>(key)) & marks.has(part::<SECOND_MARK, MARKS>(key))
+    }
+
+    // Which linked name is `name`, whose key this is, if any is; Busy if more had to be compared than a limited try may.
+    #[inline(always)]
+    fn find(&self, name: &[u8], key: usize, limited: bool) -> Result<Option<usize>, Busy>
+        requires { key ≡ key_of self.now.factor name.now }
+        ensures found { IfOk result (λ o. MatchOption o (NotAmong self.now.block.m.now self.now.block.base name.now self.now.count) (λ j. (j < self.now.count) × (name.now ≡ spelled_name self.now.block.m.now (self.now.block.base + j)))) }
+        ensures busy { IfErr result (λ _. limited ≡ true) }
+    {
+        let mut c = raw::wide(self.rooms.heads[part::<LINK, LINKS>(key)]);
+        let mut compared: usize = 0;
+        while let Some(j) = c.checked_sub(1) {
+            if limited && compared == MOST {
+                return Err(Busy);
+            }
+            if raw::same(name, self.block.name(self.block.base + j)) {
+                return Ok(Some(j));
+            }
+            c = raw::wide(self.rooms.nexts[j]);
+            compared += 1;
+        }
+        Ok(None)
+    }
+
+    // How many of the linked names, from the first on, are new: no name before the block is one. A limited try may look up a quarter of
+    // those and some more.
+    fn new_ones(&self, limited: bool) -> Result<usize, Busy>
+        ensures new { IfOk result (λ r. (r ≤ self.now.count) × NewUpTo self.now.block.m.now self.now.block.base r × (r < self.now.count → new_name self.now.block.m.now (self.now.block.base + r) ≡ false)) }
+        ensures busy { IfErr result (λ _. limited ≡ true) }
+    {
+        let base = self.block.base;
+        let mut new = self.count;
+        let mut looked_up: usize = 0;
+        for e in 0..base {
+            let name = self.block.name(e);
+            let x = key(name, self.factor);
+            if self.may_have(x) {
+                looked_up += 1;
+                if limited && e / 4 + 64 < looked_up {
+                    return Err(Busy);
+                }
+                if let Some(j) = self.find(name, x, false)? {
+                    new = new.min(j);
+                }
+            }
+        }
+        Ok(new)
+    }
 }
 
-// Which of the n names from base on is the first that is not new: n if all are, CROWDED or BUSY if this try allows less.
-fn fresh(m: &[u8], base: usize, n: usize, factor: usize, most: usize) -> usize
+// How many of the n names of the block, from the first on, are new, up to the first that is not.
+fn fresh(m: &[u8], base: usize, n: usize, factor: usize, limited: bool) -> Result<usize, Busy>
     requires { (base < 65536) × (n ≤ 224) × (factor < 2147483648) }
-    ensures { (result ≤ n → ((s : ℕ) → base ≤ s → s < base + result → new_name m.now s ≡ true) × (result < n → new_name m.now (base + result) ≡ false)) × (224 ≤ most → result ≤ n) }
+    ensures new { IfOk result (λ r. (r ≤ n) × NewUpTo m.now base r × (r < n → new_name m.now (base + r) ≡ false)) }
+    ensures busy { IfErr result (λ _. limited ≡ true) }
 {
-    let symbols = fields::start(m, 1);
-    let texts = fields::text_start(m);
-    let mut heads = [0u8; 128];
-    let mut marks = [0u8; 256];
-    let mut nexts = [0u8; BLOCK];
-    let mut first = n;
-    let mut k: usize = 0;
-    while k < first {
-        let name = fields::name_from(m, symbols, texts, base + k);
-        let x = key(name, factor);
-        let h = link(x);
-        let from = raw::wide(heads[h]);
-        let j = seen(m, symbols, texts, base, &nexts, name, from, most);
-        if j == CROWDED {
-            return j;
-        }
-        if j < BLOCK {
-            first = k;
-        } else {
-            nexts[k] = heads[h];
-            heads[h] = (k + 1) as u8;
-            let f = first_mark(x);
-            let g = second_mark(x);
-            marks[f / 8] = with_bit(marks[f / 8], f % 8);
-            marks[g / 8] = with_bit(marks[g / 8], g % 8);
-            k += 1;
-        }
-    }
-    earlier(
-        m, symbols, texts, base, k, factor, most, &heads, &marks, &nexts,
-    )
+    let mut rooms = Rooms::new();
+    let links = Links::new(Block::new(m, base), n, factor, limited, &mut rooms)?;
+    links.new_ones(limited)
 }
 
-// Which of the n names from base on is the first that is not new, n if all are.
+// How many of the n names from base on are new, up to the first that is not.
 fn first_old(m: &[u8], base: usize, n: usize) -> usize
     requires { (base < 65536) × (n ≤ 224) }
     ensures { (result ≤ n) × ((s : ℕ) → base ≤ s → s < base + result → new_name m.now s ≡ true) × (result < n → new_name m.now (base + result) ≡ false) }
 {
-    let mut c: usize = 0;
-    loop {
-        let most = if c < LAST_TRY { MOST } else { BLOCK };
-        let r = fresh(m, base, n, factor_of(c), most);
-        if r <= n {
-            return r;
+    for c in 0..TRIES {
+        if let Ok(new) = fresh(m, base, n, factor_of(c), c + 1 < TRIES) {
+            return new;
         }
-        c += 1;
     }
+    unreachable!()
 }
 
 // 3 at symbol s, if it is malformed, where its name is new.

@@ -1,24 +1,30 @@
 -- A name by its own bytes and by the book's, and where a choice's members begin, one choice on. Assumes nothing.
-use mathlib.Core.Path.{◌≡◌, refl, ◌∙◌, ap}
+use mathlib.Core.Path.{◌≡◌, refl, sym, ◌∙◌, ap}
 use mathlib.Core.Bool.{Bool, true, false, ◌&&◌, not}
 use mathlib.Core.List.{List}
-use Prim.Native.Nat.{ℕ, zero, suc, ◌+◌, ◌-◌, ◌<◌}
+use Prim.Native.Nat.{ℕ, zero, suc, ◌+◌, ◌-◌, ◌<◌, ◌≤◌}
 use native.Mathlib.Omega.{arith}
 use native.Mathlib.Numerals.{add-one}
 use lib.Dec.{eqb}
-use lib.ListN.{length, get_or, drop, get_or-eq_default, length-take, length-drop}
-use lib.Seq.{get_or-take, get_or-drop}
+use lib.ListN.{length, get_or, take, drop, get_or-eq_default, length-take, length-drop}
+use lib.Seq.{take-length, get_or-take, get_or-drop}
 use borrow.Author.Tests.{eqb-true, eqb-false}
+use Rattle.std.specs.List.{list_all}
+use Rattle.std.proofs.lemmas.List.Folds.{list_all_more}
 use Rattle.meaning.specs.Base.{part, all_below}
 use Rattle.meaning.specs.Book.{is_digit, is_name_byte, name_bytes, digits_alone, member_due, first_member, member_count}
 use Rattle.meaning.proofs.Below.{all_stop}
 
--- ALL, one more: whatever came of those before it
-pub all_turn : (p : ℕ → Bool) (k : ℕ) {a b : Bool} → a ≡ all_below p k → b ≡ p k → (a && b) ≡ all_below p (k + 1)
+-- ALL of a list, by its elements
+all_of_first : (p : ℕ → Bool) (xs : List ℕ) (n : ℕ) → n ≤ length xs → list_all p (take n xs) ≡ all_below (λ j. p (get_or xs j 0)) n
 unfolding all_below
-all_turn p k ea eb = rw (add-one, ea, eb)
+all_of_first p xs zero l = refl
+all_of_first p xs (suc n) l = rw (add-one n, all_of_first p xs n (omega arith)) at (list_all_more p xs n 0 (omega arith))
 
--- and alike where the tests are
+all_of : (p : ℕ → Bool) (xs : List ℕ) → list_all p xs ≡ all_below (λ j. p (get_or xs j 0)) (length xs)
+all_of p xs = ap (list_all p) (sym (take-length xs)) ∙ all_of_first p xs (length xs) (omega arith)
+
+-- all below, alike where the tests are
 all_alike : (p q : ℕ → Bool) (n : ℕ) → ((j : ℕ) → j < n → p j ≡ q j) → all_below p n ≡ all_below q n
 unfolding all_below
 all_alike p q zero h = refl
@@ -36,8 +42,7 @@ module _ (m : List ℕ) (at n : ℕ) where
       let l : length m < at + n = omega (arith, length-take n (drop at m), length-drop at m, h) in
       all_stop (λ j. is_name_byte (get_or m (at + j) 0)) n (n - 1) {h = false} (omega (arith, length-take n (drop at m), h)) (rw (get_or-eq_default m 0 {n = at + (n - 1)} (omega arith))) refl
 
-  pub spelled_in : (p : Bool) {w : List ℕ} {q : Bool} → w ≡ part m at n
-      → q ≡ (all_below (λ j. is_name_byte (get_or w j 0)) (length w) && not (all_below (λ j. is_digit (get_or w j 0)) (length w)))
+  pub spelled_in : (p : Bool) {w : List ℕ} {q : Bool} → w ≡ part m at n → q ≡ (list_all is_name_byte w && not (list_all is_digit w))
       → (p && eqb (length w) n && q) ≡ (p && name_bytes m at n && not (digits_alone m at n))
   unfolding name_bytes digits_alone
   spelled_in false ew eq = refl
@@ -48,6 +53,8 @@ module _ (m : List ℕ) (at n : ℕ) where
           let l : length w ≡ n = eqb-true _ _ e in
           let bytes : (j : ℕ) → j < n → get_or w j 0 ≡ get_or m (at + j) 0 = λ j h. ap (λ v. get_or v j 0) ew ∙ byte_in_lem j h in
           eq ∙ rw (
+            all_of is_name_byte w,
+            all_of is_digit w,
             l,
             all_alike (λ j. is_name_byte (get_or w j 0)) (λ j. is_name_byte (get_or m (at + j) 0)) n (λ j h. ap is_name_byte (bytes j h)),
             all_alike (λ j. is_digit (get_or w j 0)) (λ j. is_digit (get_or m (at + j) 0)) n (λ j h. ap is_digit (bytes j h)),

@@ -1,11 +1,13 @@
 -- `names::key` meets its contract: it mixes what the definition mixes, one eight at each turn.
-use mathlib.Core.Path.{◌≡◌}
-use Prim.Native.Nat.{◌≤◌, ◌<◌, ◌-◌}
+use Rattle.std.proofs.Common.{◌≡◌, ◌*◌, ◌<◌, ◌≤◌, length, drop}
 use Rattle.names.specs.Keys.{eights}
 use Rattle.names.proofs.key.Given as goal
 
-abbrev pub invariant-loop-k : goal.invariant-loop-k
-invariant-loop-k l = (l.k ≤ l.words) × (l.sum ≡ eights l.factor l.name l.k) × (l.sum < 4294967296)
-
-abbrev pub decreases-loop-k : goal.decreases-loop-k
-decreases-loop-k l = l.words - l.k
+abbrev pub invariant-loop-eight : goal.invariant-loop-eight
+invariant-loop-eight l = record {
+  size : l.eight-iterator.size ≡ 8;
+  rest : l.eight-iterator.rest.now ≡ drop (8 * length l.yielded) l.name;
+  fits : 8 * length l.yielded ≤ length l.name;
+  mixed : l.sum ≡ eights l.factor l.name (length l.yielded);
+  small : l.sum < 4294967296;
+}

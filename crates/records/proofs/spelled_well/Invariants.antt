@@ -1,13 +1,11 @@
 -- `records::spelled_well` meets its contract: after each turn both tests are known of the bytes so far.
-use mathlib.Core.Path.{◌≡◌}
-use Prim.Native.Nat.{◌≤◌, ◌-◌}
-use lib.ListN.{length, get_or}
+use Rattle.std.proofs.Common.{◌≡◌, take}
+use Rattle.std.specs.List.{list_all}
 use Rattle.meaning.specs.Book.{is_digit, is_name_byte}
-use Rattle.meaning.specs.Base.{all_below}
 use Rattle.records.proofs.spelled_well.Given as goal
 
-abbrev pub invariant-loop-j : goal.invariant-loop-j
-invariant-loop-j l = (l.j ≤ length l.name) × (l.j-end ≡ length l.name) × (l.good ≡ all_below (λ i. is_name_byte (get_or l.name i 0)) l.j) × (l.digits ≡ all_below (λ i. is_digit (get_or l.name i 0)) l.j)
-
-abbrev pub decreases-loop-j : goal.decreases-loop-j
-decreases-loop-j l = length l.name - l.j
+abbrev pub invariant-loop-b : goal.invariant-loop-b
+invariant-loop-b l = record {
+  good : l.good ≡ list_all is_name_byte (take l.b-index l.name);
+  digits : l.digits ≡ list_all is_digit (take l.b-index l.name);
+}
