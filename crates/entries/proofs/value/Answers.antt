@@ -7,7 +7,7 @@ pub returns-then-entries-s : goal.returns-then-entries-s
 returns-then-entries-s c = value_past _ _ c.entries.ensures.0 c.if-entries-s.true
 
 pub returns-in-0 : goal.returns-in-0
-returns-in-0 c = value-three _ _ c.entries.ensures.0 (omega arith) c.kind-k.ensures c.start-at.ensures.0 c.in-0.is c.byte.ensures c.of.ensures
+returns-in-0 c = value-three _ _ c.entries.ensures.0 (omega arith) c.kind-k.ensures c.start-at.ensures.0 c.in-0.is c.byte.ensures c.from.ensures
 
 pub returns-in-1 : goal.returns-in-1
 returns-in-1 c = value_text _ _ c.entries.ensures.0 (omega arith) c.kind-k.ensures c.start-at.ensures.0 c.in-1.is c.length.ensures.0
