@@ -136,7 +136,7 @@ pub fn other_by(m: &[u8], t: &[u8], vs: &[u8], s: usize, d: Leaf) -> Outcome
     requires { s < 65536 }
     ensures { result ≡ when (broken13_content (content_of t.now s) (prompt_value m.now vs.now s) (leaf_content m.now t.now d)) (Fault 13 s 65535) }
 {
-    let v = spell::of_value(entries::value(t, s));
+    let v = Leaf::from(entries::value(t, s));
     let p = values::at(vs, fields::prompt_of(m, s));
     let bad = (p.v == 0) & !same_content(m, t, v, d);
     raw::fault_if(bad, 13, s, 65535)
@@ -157,7 +157,7 @@ fn range_at(m: &[u8], t: &[u8], vs: &[u8], s: usize, r: usize) -> Outcome
     if fields::range_symbol(m, r) != s {
         return Outcome::Clean;
     }
-    let v = spell::of_value(entries::value(t, s));
+    let v = Leaf::from(entries::value(t, s));
     let condition = values::at(vs, fields::range_condition(m, r));
     let low = values::leaf(m, t, fields::low_of(m, r));
     let high = values::leaf(m, t, fields::high_of(m, r));

@@ -46,7 +46,7 @@ pub fn leaf(m: &[u8], t: &[u8], i: usize) -> Leaf
     let left = fields::left_of(m, i);
     match op {
         0 => Leaf::Three(constant(left)),
-        1 => spell::of_value(entries::value(t, left)),
+        1 => Leaf::from(entries::value(t, left)),
         2 => Leaf::Note(fields::text_start(m) + left, fields::right_of(m, i)),
         3 => Leaf::Int(entries::signed(number(m, i))),
         4 => Leaf::Hex(number(m, i)),

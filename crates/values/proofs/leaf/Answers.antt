@@ -7,7 +7,7 @@ pub returns-in-0 : goal.returns-in-0
 returns-in-0 c = leaf_constant c.args.m.now c.args.t.now c.args.i c.op_of-op.ensures c.left_of-left.ensures.0 c.in-0.is c.constant.ensures
 
 pub returns-in-1 : goal.returns-in-1
-returns-in-1 c = leaf-symbol c.args.m.now c.args.t.now c.args.i c.op_of-op.ensures c.left_of-left.ensures.0 c.in-1.is c.value.ensures c.of_value.ensures
+returns-in-1 c = leaf-symbol c.args.m.now c.args.t.now c.args.i c.op_of-op.ensures c.left_of-left.ensures.0 c.in-1.is c.value.ensures c.from.ensures
 
 pub returns-in-2 : goal.returns-in-2
 returns-in-2 c = leaf_text c.args.m.now c.args.t.now c.args.i c.op_of-op.ensures c.left_of-left.ensures.0 c.in-2.is c.text_start.ensures.0 c.right_of.ensures.0
