@@ -38,6 +38,7 @@ fn constant(left: usize) -> u8
 }
 
 // What leaf i stands for in table t.
+#[tactic(auto, using(crate::proofs::Laws::as_leaf), unfolding(meaning::specs::Values::leaf_of, meaning::specs::Table::content_of))]
 pub fn leaf(m: &[u8], t: &[u8], i: usize) -> Leaf
     requires { i < 2 ^ 32 }
     ensures { leaf_content m.now t.now result ≡ leaf_of m.now t.now i }
@@ -55,6 +56,7 @@ pub fn leaf(m: &[u8], t: &[u8], i: usize) -> Leaf
 }
 
 // A leaf's value: n for a text, a number, and a symbol of another kind.
+#[tactic(auto, using(crate::proofs::Laws::others), unfolding(meaning::specs::Values::leaf_of, meaning::specs::Table::value_of))]
 fn leaf_value(m: &[u8], t: &[u8], i: usize) -> Tri
     requires { i < 2 ^ 32 }
     ensures { result.v ≡ leaf_value m.now t.now i }
@@ -69,6 +71,7 @@ fn leaf_value(m: &[u8], t: &[u8], i: usize) -> Tri
 }
 
 // y where the leaves i and j are spelled alike, else n.
+#[tactic(auto, unfolding(meaning::specs::Values::equal_value))]
 fn equal(m: &[u8], t: &[u8], i: usize, j: usize) -> Tri
     requires { (i < 2 ^ 32) × (j < 2 ^ 32) }
     ensures { result.v ≡ equal_value m.now t.now i j }
@@ -81,6 +84,7 @@ fn equal(m: &[u8], t: &[u8], i: usize, j: usize) -> Tri
 }
 
 // The value of node i, from the values `done` of those before it.
+#[tactic(auto, unfolding(meaning::specs::Values::node_value))]
 fn node_value(m: &[u8], t: &[u8], done: &[u8], i: usize) -> Tri
     requires { i < 2 ^ 32 }
     ensures { result.v ≡ node_value m.now t.now done.now i }
@@ -100,16 +104,14 @@ fn node_value(m: &[u8], t: &[u8], done: &[u8], i: usize) -> Tri
 }
 
 // Writes each node's value, from those before it.
+#[tactic(auto, using(meaning::proofs::Folds::build_none, meaning::proofs::Folds::build_more), unfolding(meaning::specs::Values::node_values))]
 pub fn fill(m: &[u8], t: &[u8], work: &mut [u8])
     requires { nodes_of m.now ≤ length work.old }
     ensures { work.new ≡ node_values m.now t.now ++ drop (nodes_of m.now) work.old }
 {
-    let n = fields::nodes(m);
-    let mut i = 0;
-    while i < n {
-        let v = node_value(m, t, &work[..i], i);
-        work[i] = v.v;
-        i += 1;
+    // By index: a node is worked out of the bytes in front of its own.
+    for i in 0..fields::nodes(m) {
+        work[i] = node_value(m, t, &work[..i], i).v;
     }
 }
 
