@@ -34,7 +34,7 @@ fn number(m: &[u8], i: usize) -> u32
 fn constant(left: usize) -> u8
     ensures { result ≡ tri_of left }
 {
-    if left < 2 { left as u8 } else { 2 }
+    left.min(2) as u8
 }
 
 // What leaf i stands for in table t.
@@ -56,16 +56,12 @@ pub fn leaf(m: &[u8], t: &[u8], i: usize) -> Leaf
 }
 
 // A leaf's value: n for a text, a number, and a symbol of another kind.
-#[tactic(auto, using(crate::proofs::Laws::others), unfolding(meaning::specs::Values::leaf_of, meaning::specs::Table::value_of))]
 fn leaf_value(m: &[u8], t: &[u8], i: usize) -> Tri
     requires { i < 2 ^ 32 }
     ensures { result.v ≡ leaf_value m.now t.now i }
 {
-    let op = fields::op_of(m, i);
-    let left = fields::left_of(m, i);
-    match op {
-        0 => Tri { v: constant(left) },
-        1 => entries::three(t, left),
+    match leaf(m, t, i) {
+        Leaf::Three(v) => Tri { v },
         _ => Tri::N,
     }
 }

@@ -6,4 +6,4 @@ pub returns-then-range_symbol-s : goal.returns-then-range_symbol-s
 returns-then-range_symbol-s c = range_off c.args.m.now c.args.t.now c.args.vs.now c.args.s c.args.r c.range_symbol.ensures.0 c.if-range_symbol-s.true
 
 pub returns : goal.returns
-returns c = range_is c.args.m.now c.args.t.now c.args.vs.now c.args.s c.args.r c.from-v.result c.leaf-low.result c.leaf-high.result c.range_symbol.ensures.0 c.if-range_symbol-s.false c.fault_if.ensures (rw c.range_condition.ensures.0 at c.at-condition.ensures) c.within.ensures (content_is _ _ _ _ c.from-v.ensures c.value.ensures) (rw c.low_of.ensures.0 at c.leaf-low.ensures) (rw c.high_of.ensures.0 at c.leaf-high.ensures)
+returns c = range_is c.args.m.now c.args.t.now c.args.vs.now c.args.s c.args.r c.from-v.result c.leaf-low.result c.leaf-high.result c.range_symbol.ensures.0 c.if-range_symbol-s.false c.fault_if.ensures (rw c.range_condition.ensures.0 at c.at-condition.ensures) (c.within.ensures c.args.m.now c.args.t.now) (content_is _ _ _ _ c.from-v.ensures c.value.ensures) (rw c.low_of.ensures.0 at c.leaf-low.ensures) (rw c.high_of.ensures.0 at c.leaf-high.ensures)
