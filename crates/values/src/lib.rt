@@ -118,3 +118,36 @@ pub fn given(m: &[u8], t: &[u8], vs: &[u8], k: usize) -> Tri
 {
     entries::three(t, fields::selector_of(m, k)).and(at(vs, fields::condition_of(m, k)))
 }
+
+// A model book, a table of it, and the node work: what the rules read. Lent as a whole, it is one word where the three are six.
+#[derive(Clone, Copy)]
+pub struct Valued<'a> {
+    pub model: &'a [u8],
+    pub table: &'a [u8],
+    pub work: &'a [u8],
+}
+
+impl Valued<'_> {
+    // The value worked out for node i; n past the end.
+    pub fn node(&self, i: usize) -> Tri
+        ensures { result.v ≡ val self.now.work.now i }
+    {
+        at(self.work, i)
+    }
+
+    // What leaf i stands for.
+    pub fn leaf(&self, i: usize) -> Leaf
+        requires { i < 2 ^ 32 }
+        ensures { leaf_content self.now.model.now self.now.table.now result ≡ leaf_of self.now.model.now self.now.table.now i }
+    {
+        leaf(self.model, self.table, i)
+    }
+
+    // What select k gives its target: the smaller of selector and condition.
+    pub fn given(&self, k: usize) -> Tri
+        requires { k < 2 ^ 32 }
+        ensures { result.v ≡ given_of self.now.model.now self.now.table.now self.now.work.now k }
+    {
+        given(self.model, self.table, self.work, k)
+    }
+}
