@@ -5,7 +5,6 @@
 #![tactic(auto)]
 
 ghost use Rattle.std.specs.Prelude.{◌≡◌, ◌++◌, ◌<◌, ◌≤◌, ◌^◌, length, drop};
-ghost use Rattle.tri.specs.Three.{tri_of};
 ghost use Rattle.meaning.specs.Book.{nodes as nodes_of};
 ghost use Rattle.meaning.specs.Values.{val, number_of, leaf_of, leaf_value, equal_value, node_value, node_values, given as given_of};
 ghost use Rattle.spell.specs.Leaves.{leaf_content};
@@ -30,13 +29,6 @@ fn number(m: &[u8], i: usize) -> u32
     raw::joined_halves(fields::left_of(m, i), fields::right_of(m, i))
 }
 
-// The value of a constant.
-fn constant(left: usize) -> u8
-    ensures { result ≡ tri_of left }
-{
-    left.min(2) as u8
-}
-
 // What leaf i stands for in table t.
 #[tactic(auto, using(crate::proofs::Laws::as_leaf), unfolding(meaning::specs::Values::leaf_of, meaning::specs::Table::content_of))]
 pub fn leaf(m: &[u8], t: &[u8], i: usize) -> Leaf
@@ -46,7 +38,7 @@ pub fn leaf(m: &[u8], t: &[u8], i: usize) -> Leaf
     let op = fields::op_of(m, i);
     let left = fields::left_of(m, i);
     match op {
-        0 => Leaf::Three(constant(left)),
+        0 => Leaf::Three(left.min(2) as u8),
         1 => Leaf::from(entries::value(t, left)),
         2 => Leaf::Note(fields::text_start(m) + left, fields::right_of(m, i)),
         3 => Leaf::Int(entries::signed(number(m, i))),
