@@ -112,7 +112,7 @@ pub fn value(t: &[u8], s: usize) -> Value
     let k = kind(t, s);
     let at = start(t, s);
     match k {
-        0 => Value::Three(Tri::of(raw::byte(t, at)).v),
+        0 => Value::Three(Tri::from(raw::byte(t, at)).v),
         1 => Value::Text(at, length(t, s)),
         2 => Value::Int(signed(raw::word(t, at))),
         3 => Value::Hex(raw::word(t, at)),
@@ -140,7 +140,7 @@ pub fn three(t: &[u8], s: usize) -> Tri
     }
     let k = kind(t, s);
     match k {
-        0 => Tri::of(raw::byte(t, start(t, s))),
+        0 => Tri::from(raw::byte(t, start(t, s))),
         _ => Tri::N,
     }
 }

@@ -3,7 +3,7 @@ use mathlib.Core.Path.{◌≡◌, refl, sym, ◌∙◌, ap}
 use mathlib.Core.Bool.{Bool, true, false, ◌&&◌, ◌||◌}
 use lib.Dec.{eqb, leb, ltb}
 use mathlib.Core.List.{List, [], ◌∷◌, ◌++◌, append_assoc}
-use Prim.Native.Nat.{ℕ, ◌+◌, ◌-◌, ◌*◌, ◌≤◌, ◌<◌}
+use Prim.Native.Nat.{ℕ, ◌+◌, ◌*◌, ◌≤◌, ◌<◌}
 use native.Mathlib.Omega.{arith}
 use lib.ListN.{length, get_or, set, take, drop, length-set, length-append, length-take, length-drop, drop_of_length-le}
 use lib.Seq.{take_all, length-take-le, take_at, drop_at, drop-drop, paste, length-paste, paste-suc}
@@ -18,7 +18,6 @@ use Rattle.meaning.specs.Book.{name_of, byte_in, book_fault, symbols, start, wid
 use Rattle.meaning.specs.Rules.{node_work}
 use Rattle.meaning.specs.Program.{model_length, model_part, table_part, offender, or_dash, decimal, program_outcome, line_with, line_of}
 use Rattle.meaning.specs.Spell.{digits}
-use Rattle.spell.proofs.Laws.{rest_of}
 use Rattle.rules.specs.Checked.{Checked}
 use Rattle.line.specs.Written.{Written, Lined}
 use Rattle.line.specs.Numbers.{three_numbers}
@@ -99,22 +98,15 @@ module _ (o : List ℕ) (at : ℕ) {x : List ℕ} {r : ℕ} {a : List ℕ} (le :
         long = v.long ∙ w.long;
       }
 
--- THE PARTS OF THE LINE. A number and a space, where the digits end a buffer of 14 bytes and leave two before them
-pub digits_short : (at : ℕ) (d : List ℕ) → 2 ≤ at → length (take (14 - at) (drop at d)) ≤ 12
-digits_short at d two = omega (arith, length-take (14 - at) (drop at d))
-
-abbrev Spelled : ℕ → List ℕ → ℕ → Type 0
-Spelled at d v = (2 ≤ at) × (at ≤ 14) × (length d ≡ 14) × (drop at d ≡ digits 10 12 v [])
-
-pub number_written : (o : List ℕ) (at v from : ℕ) (d : List ℕ) {e r : ℕ} {a b : List ℕ} → at + 13 ≤ length o → Spelled from d v
-    → Written o at (take (14 - from) (drop from d)) e a
+-- THE PARTS OF THE LINE. A number and a space
+pub number_written : (o : List ℕ) (at : ℕ) (v : ℕ) {d : List ℕ} {e r : ℕ} {a b : List ℕ} → at + 13 ≤ length o
+    → (d ≡ digits 10 12 v []) × (length d ≤ 12)
+    → Written o at d e a
     → Written a e (32 ∷ []) r b
     → Written o at (decimal v ++ (32 ∷ [])) r b × (r ≤ at + 13)
 unfolding decimal
-number_written o at v from d fits s w x =
-    let short = digits_short from d s.0 in
-    let same : take (14 - from) (drop from d) ≡ digits 10 12 v [] = rest_of d from s.2 ∙ s.3 in
-    (rw same at (behind o at (omega (arith, fits, short, w.ends)) w (32 ∷ []) x), omega (arith, short, w.ends, x.ends))
+number_written o at v fits s w x =
+    (rw s.0 at (behind o at (omega (arith, fits, s.1, w.ends)) w (32 ∷ []) x), omega (arith, s.1, w.ends, x.ends))
 
 -- three numbers
 pub numbers_written : (o : List ℕ) (a : Answer) {i j r : ℕ} {b c d : List ℕ} → 39 ≤ length o

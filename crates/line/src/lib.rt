@@ -70,10 +70,7 @@ fn number(out: &mut [u8], at: usize, v: u16) -> usize
     requires { at + 13 ≤ length out.old }
     ensures { Written out.old at (decimal v ++ (32 ∷ [])) result out.new × (result ≤ at + 13) }
 {
-    let s = spell::decimal(v as u32);
-    let start = s.at;
-    let bytes = s.bytes;
-    let end = append(out, at, &bytes[start..]);
+    let end = append(out, at, spell::decimal(v as u32).text());
     append(out, end, b" ")
 }
 

@@ -3,12 +3,14 @@
 // Total over any bytes. A number is spelled into a buffer of 14 bytes, from its end.
 #![tactic(auto)]
 
-ghost use Rattle.std.specs.Prelude.{◌≡◌, ◌+◌, ◌<◌, ◌≤◌, [], length, drop, nat_abs};
+ghost use Rattle.std.specs.Prelude.{◌≡◌, ◌<◌, ◌≤◌, ℕ, List, [], ◌∷◌, length, drop};
+ghost use Rattle.std.specs.Fn.{FnOnceReturnsAt};
 ghost use Rattle.meaning.specs.Base.{same_text};
 ghost use Rattle.meaning.specs.Spell.{digit, digits, letter, spelled_int, spelled_hex};
 ghost use Rattle.spell.specs.Leaves.{spelled_leaf, leaf_of_value};
 
 use meaning::Value;
+use std::marker::Model;
 
 // A leaf as it was read: one of the three values, a text in the book, a text in the table, an int, a hex.
 #[derive(Clone, Copy)]
@@ -26,134 +28,121 @@ fn digit_of(d: u32) -> u8
     ensures { result ≡ digit d }
 {
     if d < 10 {
-        48 + (d as u8)
+        b'0' + d as u8
     } else {
-        87 + (d as u8)
+        b'a' + (d - 10) as u8
     }
 }
 
-// A number's spelling: the bytes from at on.
-#[derive(Clone, Copy)]
+// A number's spelling: the bytes from `at` on. What is put in front of it stands there.
+#[derive(Drop)]
 pub struct Spelling {
-    pub bytes: [u8; 14],
-    pub at: usize,
+    bytes: [u8; 14],
+    at: usize,
 }
 
-// The digits of v at the end, with two bytes or more before them.
-fn spell(base: u32, v: u32) -> Spelling
-    requires { (1 < base) × (base ≤ 16) }
-    ensures { (2 ≤ result.at) × (result.at ≤ 14) × (length result.bytes ≡ 14) × (drop result.at result.bytes ≡ digits base 12 v []) }
-{
-    let mut bytes = [0u8; 14];
-    let mut n = v;
-    let mut at: usize = 14;
-    while 2 < at {
-        at -= 1;
-        bytes[at] = digit_of(n % base);
-        if n < base {
-            return Spelling {
-                bytes: bytes,
-                at: at,
-            };
+impl Model for Spelling {
+    ghost Value = { List ℕ };
+
+    ghost view = { λ s. drop s.at s.bytes };
+
+    ghost invariant = { λ s. s.at ≤ 14 };
+}
+
+impl Spelling {
+    // Nothing yet.
+    fn empty() -> Spelling
+        ensures { result ≡ [] }
+    {
+        Spelling {
+            bytes: [0; 14],
+            at: 14,
         }
-        n = n / base;
     }
-    Spelling {
-        bytes: bytes,
-        at: at,
+
+    // Puts a byte in front.
+    fn push_front(&mut self, byte: u8)
+        requires { length self.old < 14 }
+        ensures { self.new ≡ byte ∷ self.old }
+    {
+        self.at -= 1;
+        self.bytes[self.at] = byte;
+    }
+
+    // The digits of v in this base: 12 at most.
+    #[tactic(auto, using(crate::proofs::Laws::last_digit, crate::proofs::Laws::next_digit, crate::proofs::Laws::no_digits))]
+    fn digits<const BASE: u32>(v: u32) -> Spelling
+        requires { (1 < BASE) × (BASE ≤ 16) }
+        ensures text { result ≡ digits BASE 12 v [] }
+        ensures short { length result ≤ 12 }
+    {
+        let mut spelling = Spelling::empty();
+        let mut n = v;
+        for _ in 0..12u32 {
+            spelling.push_front(digit_of(n % BASE));
+            if n < BASE {
+                return spelling;
+            }
+            n /= BASE;
+        }
+        spelling
+    }
+
+    // 0x and the digits of v.
+    fn hex(v: u32) -> Spelling
+        ensures { result ≡ spelled_hex v }
+    {
+        let mut spelling = Spelling::digits::<16>(v);
+        spelling.push_front(b'x');
+        spelling.push_front(b'0');
+        spelling
+    }
+
+    // The digits of v, behind a minus sign if it is below zero.
+    fn int(v: i32) -> Spelling
+        ensures { result ≡ spelled_int v }
+    {
+        let mut spelling = Spelling::digits::<10>(v.unsigned_abs());
+        if v < 0 {
+            spelling.push_front(b'-');
+        }
+        spelling
+    }
+
+    // The bytes spelled.
+    pub fn text(&self) -> &[u8]
+        ensures { result.now ≡ self.now }
+    {
+        &self.bytes[self.at..]
     }
 }
 
 // The decimal digits of v: 12 at most.
 pub fn decimal(v: u32) -> Spelling
-    ensures { (2 ≤ result.at) × (result.at ≤ 14) × (length result.bytes ≡ 14) × (drop result.at result.bytes ≡ digits 10 12 v []) }
+    ensures text { result ≡ digits 10 12 v [] }
+    ensures short { length result ≤ 12 }
 {
-    spell(10, v)
-}
-
-// 0x and the digits of v.
-fn spell_hex(v: u32) -> Spelling
-    ensures { (result.at ≤ 14) × (length result.bytes ≡ 14) × (drop result.at result.bytes ≡ spelled_hex v) }
-{
-    let s = spell(16, v);
-    let at = s.at;
-    let mut bytes = s.bytes;
-    bytes[at - 1] = 120;
-    bytes[at - 2] = 48;
-    Spelling {
-        bytes: bytes,
-        at: at - 2,
-    }
-}
-
-// The number without its sign.
-fn size(v: i32) -> u32
-    ensures { result ≡ nat_abs v }
-{
-    if v < 0 { (!v) as u32 + 1 } else { v as u32 }
-}
-
-// The digits of v, behind a minus sign if it is below zero.
-fn spell_int(v: i32) -> Spelling
-    ensures { (result.at ≤ 14) × (length result.bytes ≡ 14) × (drop result.at result.bytes ≡ spelled_int v) }
-{
-    let s = spell(10, size(v));
-    if v < 0 {
-        let at = s.at;
-        let mut bytes = s.bytes;
-        bytes[at - 1] = 45;
-        Spelling {
-            bytes: bytes,
-            at: at - 1,
-        }
-    } else {
-        s
-    }
-}
-
-// Whether x is b's spelling.
-fn same_as(x: &[u8], m: &[u8], t: &[u8], b: Leaf) -> bool
-    ensures { result ≡ same_text x.now (spelled_leaf m.now t.now b) }
-{
-    match b {
-        Leaf::Three(v) => raw::same(x, &[letter_of(v)]),
-        Leaf::Note(at, n) => raw::same(x, raw::part(m, at, n)),
-        Leaf::Text(at, n) => raw::same(x, raw::part(t, at, n)),
-        Leaf::Int(v) => {
-            let s = spell_int(v);
-            let at = s.at;
-            let bytes = s.bytes;
-            raw::same(x, &bytes[at..])
-        }
-        Leaf::Hex(v) => {
-            let s = spell_hex(v);
-            let at = s.at;
-            let bytes = s.bytes;
-            raw::same(x, &bytes[at..])
-        }
-    }
+    Spelling::digits::<10>(v)
 }
 
 // Whether a and b are spelled alike.
 pub fn same_spelling(m: &[u8], t: &[u8], a: Leaf, b: Leaf) -> bool
     ensures { result ≡ same_text (spelled_leaf m.now t.now a) (spelled_leaf m.now t.now b) }
 {
-    match a {
-        Leaf::Three(v) => same_as(&[letter_of(v)], m, t, b),
-        Leaf::Note(at, n) => same_as(raw::part(m, at, n), m, t, b),
-        Leaf::Text(at, n) => same_as(raw::part(t, at, n), m, t, b),
-        Leaf::Int(v) => {
-            let s = spell_int(v);
-            let at = s.at;
-            let bytes = s.bytes;
-            same_as(&bytes[at..], m, t, b)
-        }
-        Leaf::Hex(v) => {
-            let s = spell_hex(v);
-            let at = s.at;
-            let bytes = s.bytes;
-            same_as(&bytes[at..], m, t, b)
-        }
+    with_text(m, t, a, |x| with_text(m, t, b, |y| raw::same(x, y)))
+}
+
+// What f makes of the leaf's spelling.
+fn with_text<R, F: FnOnce(&[u8]) -> R>(m: &[u8], t: &[u8], leaf: Leaf, f: F) -> R
+    requires { F.IsAlwaysCallable f }
+    ensures { FnOnceReturnsAt F.FnOnce f (spelled_leaf m.now t.now leaf) result }
+{
+    match leaf {
+        Leaf::Three(v) => f(&[letter_of(v)]),
+        Leaf::Note(at, n) => f(raw::part(m, at, n)),
+        Leaf::Text(at, n) => f(raw::part(t, at, n)),
+        Leaf::Int(v) => f(Spelling::int(v).text()),
+        Leaf::Hex(v) => f(Spelling::hex(v).text()),
     }
 }
 
@@ -162,20 +151,22 @@ pub fn letter_of(v: u8) -> u8
     ensures { result ≡ letter v }
 {
     match v {
-        0 => 110,
-        1 => 109,
-        _ => 121,
+        0 => b'n',
+        1 => b'm',
+        _ => b'y',
     }
 }
 
 // An entry's value as a leaf.
-pub fn of_value(v: Value) -> Leaf
-    ensures { result ≡ leaf_of_value v }
-{
-    match v {
-        Value::Three(x) => Leaf::Three(x),
-        Value::Text(at, n) => Leaf::Text(at, n),
-        Value::Int(z) => Leaf::Int(z),
-        Value::Hex(h) => Leaf::Hex(h),
+impl From<Value> for Leaf {
+    ghost from_gives = { λ value leaf. leaf ≡ leaf_of_value value };
+
+    fn from(value: Value) -> Leaf {
+        match value {
+            Value::Three(v) => Leaf::Three(v),
+            Value::Text(at, n) => Leaf::Text(at, n),
+            Value::Int(z) => Leaf::Int(z),
+            Value::Hex(h) => Leaf::Hex(h),
+        }
     }
 }

@@ -3,16 +3,14 @@
 // Total over any bytes: `vs` has the nodes' values, and the caller knows a symbol's Default and Lower. A symbol's number is below 2^16.
 #![tactic(auto)]
 
-ghost use Rattle.std.specs.Prelude.{◌≡◌, ◌⊎◌, ◌<◌, ◌≤◌, leb};
-ghost use Rattle.std.specs.Int.Signed.{le_z};
+ghost use Rattle.std.specs.Prelude.{◌≡◌, ◌⊎◌, ◌<◌, ◌≤◌, ℕ, List};
 ghost use Rattle.meaning.specs.Base.{Clean, Fault};
 ghost use Rattle.meaning.specs.Base.{when, first_below};
-ghost use Rattle.meaning.specs.Table.{content_in, content_of, value_of, a_three, a_text};
+ghost use Rattle.meaning.specs.Table.{content_in, content_of, value_of, a_text};
 ghost use Rattle.meaning.specs.Values.{prompt_value};
 ghost use Rattle.meaning.specs.Book.{ranges as ranges_of};
-ghost use Rattle.meaning.specs.Rules.{type_fits, same_content, broken13_content, three_tests, test10, test14};
+ghost use Rattle.meaning.specs.Rules.{type_fits, same_content, within, broken13_content, three_tests, test10, test14};
 ghost use Rattle.spell.specs.Leaves.{leaf_content};
-ghost use Rattle.symbol_rules.specs.Leaves.{leaf_int, leaf_hex, leaf_ordered, leaf_within};
 ghost use Rattle.symbol_rules.specs.Ranges.{KeptAt, KeptBelow, BrokenAt};
 
 use meaning::{Outcome, Refusal, Value, refuse_if, refuse_with_if, turns};
@@ -25,7 +23,7 @@ fn type_fits(t: &[u8], y: u8, v: Value) -> bool
 {
     match v {
         Value::Three(x) => ((y == 0) & (x != 1)) | (y == 1),
-        Value::Text(at, n) => (y == 2) | (((y == 3) | (y == 4)) & (raw::part(t, at, n).len() == 0)),
+        Value::Text(at, n) => (y == 2) | (((y == 3) | (y == 4)) & raw::part(t, at, n).is_empty()),
         Value::Int(_) => y == 3,
         Value::Hex(_) => y == 4,
     }
@@ -63,16 +61,6 @@ pub fn three_by(m: &[u8], t: &[u8], vs: &[u8], s: usize, d: Tri, low: Tri) -> Ou
     three_tests(s, v, p, d, low)
 }
 
-// Whether leaf b is the value v.
-fn same_three(m: &[u8], t: &[u8], v: u8, b: Leaf) -> bool
-    ensures { result ≡ same_content (a_three v) (leaf_content m.now t.now b) }
-{
-    match b {
-        Leaf::Three(w) => v == w,
-        _ => false,
-    }
-}
-
 // Whether leaf b is the text x.
 fn same_text(x: &[u8], m: &[u8], t: &[u8], b: Leaf) -> bool
     ensures { result ≡ same_content (a_text x.now) (leaf_content m.now t.now b) }
@@ -84,46 +72,17 @@ fn same_text(x: &[u8], m: &[u8], t: &[u8], b: Leaf) -> bool
     }
 }
 
-// Whether leaf b is an int of at least z.
-fn int_to(z: i32, b: Leaf) -> bool
-    ensures { result ≡ leaf_int (λ w. le_z z w) b }
-{
-    match b {
-        Leaf::Int(w) => z <= w,
-        _ => false,
-    }
-}
-
-// Whether leaf b is a hex of at least h.
-fn hex_to(h: u32, b: Leaf) -> bool
-    ensures { result ≡ leaf_hex (λ w. leb h w) b }
-{
-    match b {
-        Leaf::Hex(w) => h <= w,
-        _ => false,
-    }
-}
-
-// Whether a is at most b: two ints, or two hexes.
-fn ordered(a: Leaf, b: Leaf) -> bool
-    ensures { result ≡ leaf_ordered a b }
-{
-    match a {
-        Leaf::Int(z) => int_to(z, b),
-        Leaf::Hex(h) => hex_to(h, b),
-        _ => false,
-    }
-}
-
-// Whether two leaves are of one kind and content. Two ints, or two hexes, are where each is at most the other.
+// Whether two leaves are of one kind and content.
 fn same_content(m: &[u8], t: &[u8], a: Leaf, b: Leaf) -> bool
     ensures { result ≡ same_content (leaf_content m.now t.now a) (leaf_content m.now t.now b) }
 {
-    match a {
-        Leaf::Three(v) => same_three(m, t, v, b),
-        Leaf::Note(at, n) => same_text(raw::part(m, at, n), m, t, b),
-        Leaf::Text(at, n) => same_text(raw::part(t, at, n), m, t, b),
-        _ => ordered(a, b) & ordered(b, a),
+    match (a, b) {
+        (Leaf::Three(v), Leaf::Three(w)) => v == w,
+        (Leaf::Int(z), Leaf::Int(w)) => z == w,
+        (Leaf::Hex(g), Leaf::Hex(h)) => g == h,
+        (Leaf::Note(at, n), _) => same_text(raw::part(m, at, n), m, t, b),
+        (Leaf::Text(at, n), _) => same_text(raw::part(t, at, n), m, t, b),
+        _ => false,
     }
 }
 
@@ -133,17 +92,21 @@ pub fn other_by(m: &[u8], t: &[u8], vs: &[u8], s: usize, d: Leaf) -> Outcome
     requires { s < 65536 }
     ensures { result ≡ when (broken13_content (content_of t.now s) (prompt_value m.now vs.now s) (leaf_content m.now t.now d)) (Fault 13 s 65535) }
 {
-    let v = spell::of_value(entries::value(t, s));
+    let v = Leaf::from(entries::value(t, s));
     let p = values::at(vs, fields::prompt_of(m, s));
     let bad = (p.v == 0) & !same_content(m, t, v, d);
     refuse_if(bad, Refusal::Default, s)
 }
 
-// Whether v lies from low to high: three ints, or three hexes.
+// Whether v lies from low to high: three ints, or three hexes, whatever book and table they stand in.
 fn within(low: Leaf, high: Leaf, v: Leaf) -> bool
-    ensures { result ≡ leaf_within low high v }
+    ensures { (m t : List ℕ) → result ≡ within (leaf_content m t low) (leaf_content m t high) (leaf_content m t v) }
 {
-    ordered(low, v) & ordered(v, high)
+    match (low, v, high) {
+        (Leaf::Int(a), Leaf::Int(z), Leaf::Int(b)) => (a <= z) & (z <= b),
+        (Leaf::Hex(a), Leaf::Hex(h), Leaf::Hex(b)) => (a <= h) & (h <= b),
+        _ => false,
+    }
 }
 
 // 14 at s, if range r is on it and broken.
@@ -155,7 +118,7 @@ fn range_at(m: &[u8], t: &[u8], vs: &[u8], s: usize, r: usize) -> Outcome
     if fields::range_symbol(m, r) != s {
         return Ok(());
     }
-    let v = spell::of_value(entries::value(t, s));
+    let v = Leaf::from(entries::value(t, s));
     let condition = values::at(vs, fields::range_condition(m, r));
     let low = values::leaf(m, t, fields::low_of(m, r));
     let high = values::leaf(m, t, fields::high_of(m, r));

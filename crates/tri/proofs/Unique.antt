@@ -3,8 +3,8 @@ use mathlib.Core.Path.{◌≡◌, sym, ◌∙◌, ap}
 use Prim.Native.Nat.{ℕ}
 use Rattle.tri.specs.Once.{Once}
 use Rattle.tri.specs.declared.Tri.{Tri}
-use Rattle.tri.proofs.Tri.of.Kinds as OfKinds
-use Rattle.tri.proofs.Tri.of.Reads as OfReads
+use Rattle.tri.proofs.TriFromU8.from.Kinds as FromKinds
+use Rattle.tri.proofs.TriFromU8.from.Reads as FromReads
 use Rattle.tri.proofs.Tri.not.Kinds as NotKinds
 use Rattle.tri.proofs.Tri.not.Reads as NotReads
 use Rattle.tri.proofs.Tri.and.Kinds as AndKinds
@@ -16,8 +16,8 @@ use Rattle.tri.proofs.Tri.or.Reads as OrReads
 pub by_v : {a b : Tri} {v : ℕ} → a.v ≡ v → b.v ≡ v → a ≡ b
 by_v p q = ap (λ (v : ℕ). record { v = v }) (p ∙ sym q)
 
-pub of_once : Once 0 OfKinds.ps OfKinds.r OfReads.Post
-of_once κs a x y s t p q = by_v p q
+pub from_once : Once 0 FromKinds.ps FromKinds.r FromReads.Post
+from_once κs a x y s t p q = by_v p q
 
 pub not_once : Once 0 NotKinds.ps NotKinds.r NotReads.Post
 not_once κs a x y s t p q = by_v p q

@@ -6,7 +6,9 @@
 ghost use Rattle.std.specs.Prelude.{◌≡◌};
 ghost use Rattle.tri.specs.Three.{tri_of, not_of, and_of, or_of};
 
-#[derive(Clone, Copy)]
+// A byte, and no enum of three: the rules are promised for node work of any bytes (`values::at` ensures `result.v ≡ val vs.now i`, which may be 255).
+// Derived comparisons compare `v`, so n < m < y.
+#[derive(Clone, Copy, PartialEq, Eq, PartialOrd, Ord)]
 pub struct Tri {
     pub v: u8,
 }
@@ -17,13 +19,6 @@ impl Tri {
     pub const M: Tri = Tri { v: 1 };
 
     pub const Y: Tri = Tri { v: 2 };
-
-    // The value that a byte stands for; every byte above 2 is read as y.
-    pub fn of(byte: u8) -> Tri
-        ensures { result.v ≡ tri_of byte }
-    {
-        if byte < 2 { Tri { v: byte } } else { Tri::Y }
-    }
 
     // y for n, n for y, m for m.
     pub fn not(self) -> Tri
@@ -40,13 +35,22 @@ impl Tri {
     pub fn and(self, other: Tri) -> Tri
         ensures { result.v ≡ and_of self.v other.v }
     {
-        if self.v <= other.v { self } else { other }
+        self.min(other)
     }
 
     // The larger of the two.
     pub fn or(self, other: Tri) -> Tri
         ensures { result.v ≡ or_of self.v other.v }
     {
-        if self.v <= other.v { other } else { self }
+        self.max(other)
+    }
+}
+
+// The value that a byte stands for; every byte above 2 is read as y.
+impl From<u8> for Tri {
+    ghost from_gives = { λ byte t. t.v ≡ tri_of byte };
+
+    fn from(byte: u8) -> Tri {
+        if byte < 2 { Tri { v: byte } } else { Tri::Y }
     }
 }

@@ -12,6 +12,12 @@ use Rattle.values.proofs.leaf.Kinds as LeafKinds
 use Rattle.values.proofs.leaf.Reads as LeafReads
 use Rattle.values.proofs.fill.Kinds as FillKinds
 use Rattle.values.proofs.fill.Reads as FillReads
+use Rattle.values.proofs.Valued.node.Kinds as NodeKinds
+use Rattle.values.proofs.Valued.node.Reads as NodeReads
+use Rattle.values.proofs.Valued.leaf.Kinds as ItsLeafKinds
+use Rattle.values.proofs.Valued.leaf.Reads as ItsLeafReads
+use Rattle.values.proofs.Valued.given.Kinds as ItsGivenKinds
+use Rattle.values.proofs.Valued.given.Reads as ItsGivenReads
 use Rattle.values.proofs.given.Kinds as GivenKinds
 use Rattle.values.proofs.given.Reads as GivenReads
 
@@ -32,3 +38,18 @@ fill_once κs a x y s t p q = p ∙ sym q
 
 pub given_once : Once 3 GivenKinds.ps GivenKinds.r GivenReads.Post
 given_once κs a x y s t p q = by_v p q
+
+-- the methods of `Valued`
+pub node_once : Once 2 NodeKinds.ps NodeKinds.r NodeReads.Post
+node_once κs a x y s t p q = by_v p q
+
+pub its_leaf_once :
+    (κs : Lfts 2) (a : Dens κs ItsLeafKinds.ps) (x y : (res_t ItsLeafKinds.r κs).Denot)
+    (s t : AtExit (ended_of 2 ItsLeafKinds.ps ItsLeafKinds.r) κs)
+    → ItsLeafReads.Post κs a x s
+    → ItsLeafReads.Post κs a y t
+    → leaf_content a.0.now.model.now a.0.now.table.now x ≡ leaf_content a.0.now.model.now a.0.now.table.now y
+its_leaf_once κs a x y s t p q = p ∙ sym q
+
+pub its_given_once : Once 2 ItsGivenKinds.ps ItsGivenKinds.r ItsGivenReads.Post
+its_given_once κs a x y s t p q = by_v p q
