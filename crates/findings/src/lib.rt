@@ -15,6 +15,7 @@ ghost use Rattle.findings.specs.Walks.{decoded, walked, splits_at, StandsIn};
 ghost use Rattle.findings.specs.Found.{Found};
 
 use meaning::{Head, Outcome};
+use sets::Set;
 
 // 21: the finding's length, its select, its kind, its zero.
 fn head_fault(m: &[u8], f: &[u8]) -> Outcome
@@ -74,7 +75,7 @@ fn head_at(m: &[u8], q: usize, f: &[u8], ys: &[u8], at: usize) -> Head
     }
     if (mark == 0) & (at + 3 <= f.len()) {
         let s = raw::half(f, at + 1);
-        return split_head(sets::at(ys, s), s, at + 3);
+        return split_head(sets::at(ys, s).bits, s, at + 3);
     }
     Head::Bad
 }
@@ -103,7 +104,7 @@ fn splits(f: &[u8], ys: &[u8], at: usize) -> bool
     requires { at < 65536 }
     ensures { result ≡ splits_at f.now ys.now at }
 {
-    let set = sets::at(ys, raw::half(f, at + 1));
+    let set = sets::at(ys, raw::half(f, at + 1)).bits;
     (raw::byte(f, at) == 0) & (at + 3 <= f.len()) & ((set == 5) | (set == 7))
 }
 
@@ -132,12 +133,12 @@ fn split(m: &&[u8], f: &&[u8], left: usize, at: usize, ys: &mut [u8], w: &mut [u
     let all = sets::at(ys, s);
     let mut reached = at + 3;
     for v in 0u8..3 {
-        if sets::has(all, v) {
-            raw::put(ys, s, sets::only(v));
+        if all.has(v) {
+            raw::put(ys, s, Set::only(v).bits);
             reached = branch(m, f, left - 1, reached, ys, w);
         }
     }
-    raw::put(ys, s, all);
+    raw::put(ys, s, all.bits);
     reached
 }
 
@@ -149,7 +150,7 @@ fn fill_sets(m: &[u8], ys: &mut [u8])
     let n = fields::symbols(m);
     let mut s: usize = 0;
     while s < n {
-        ys[s] = sets::full(fields::type_of(m, s));
+        ys[s] = Set::full(fields::type_of(m, s)).bits;
         s += 1;
     }
 }

@@ -1,0 +1,17 @@
+-- `sets::Set::only` meets its contract: number by number.
+use Rattle.meaning.specs.Sets.{only}
+use borrow.Author.Tests.{ne_eqb}
+use native.Mathlib.Omega.{arith}
+use Rattle.sets.proofs.Set.only.Goals as goal
+
+pub returns-in-0 : goal.returns-in-0
+unfolding only
+returns-in-0 c = rw c.in-0.is
+
+pub returns-in-1 : goal.returns-in-1
+unfolding only
+returns-in-1 c = rw c.in-1.is
+
+pub returns-in_default : goal.returns-in_default
+unfolding only
+returns-in_default c = rw (ne_eqb c.args.v 0 (omega arith), ne_eqb c.args.v 1 (omega arith))
