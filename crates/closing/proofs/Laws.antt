@@ -1,5 +1,5 @@
 -- Every pick from a set, a turn at a time; a pick from {n} alone; and what each rule's closing asks. Assumes nothing.
-use mathlib.Core.Path.{◌≡◌, refl, sym}
+use mathlib.Core.Path.{◌≡◌, refl, sym, ◌∙◌}
 use mathlib.Core.Bool.{Bool, true, false, ◌&&◌, not}
 use mathlib.Core.List.{List, append-nil}
 use Prim.Native.Nat.{ℕ, ◌+◌, ◌<◌}
@@ -36,18 +36,36 @@ module _ (a : ℕ) (p : ℕ → Bool) where
   unfolding every
   till_stop k lt eh t f = sym (all_stop _ 3 k lt refl (rw (← eh, t) f))
 
+-- from {n} there is one pick
+every_n : (p : ℕ → Bool) → every 1 p ≡ p 0
+unfolding every has all_below
+every_n p = by (p 0)
+  where
+    by : (b : Bool) → b && true && true ≡ b
+    by true = refl
+    by false = refl
+
+-- what holds of each value holds of every pick
+every_same : (a : ℕ) {p q : ℕ → Bool} → ((v : ℕ) → p v ≡ q v) → every a p ≡ every a q
+unfolding every all_below
+every_same a h = rw (h 0, h 1, h 2)
+
+-- the tests of four nested picks
+abbrev pub picked : (ℕ → ℕ → ℕ → ℕ → Bool) → ℕ → ℕ → ℕ → ℕ → Bool
+picked t a b c e = every a (λ v. every b (λ p. every c (λ d. every e (t v p d))))
+
 -- EACH RULE's closing, from every pick of what it reads
 module _ (m ys ss : List ℕ) (s : ℕ) {a low : ℕ} (ea : a ≡ sat ys s) (el : low ≡ lower_set m ys ss s) where
-  pub closes11 : {x : Bool} → x ≡ every a (λ v. every low (λ l. broken11 v l)) → x ≡ closed11 m 0 ys ss s
+  pub closes11 : {x : Bool} → x ≡ picked (λ v p d l. broken11 v l) a 1 1 low → x ≡ closed11 m 0 ys ss s
   unfolding closed11
-  closes11 e = rw (ea, el) at e
+  closes11 e = (rw (ea, el) at e) ∙ every_same (sat ys s) (λ v. every_n _ ∙ every_n _)
 
   module _ {p : ℕ} (ep : p ≡ sat ss (prompt_of m s)) where
-    pub closes12 : {x : Bool} → x ≡ every a (λ v. every p (λ q. every low (λ l. broken12 v q l))) → x ≡ closed12 m 0 ys ss s
+    pub closes12 : {x : Bool} → x ≡ picked (λ v p d l. broken12 v p l) a p 1 low → x ≡ closed12 m 0 ys ss s
     unfolding closed12 prompt_set
-    closes12 e = rw (ea, el, ep) at e
+    closes12 e = (rw (ea, el, ep) at e) ∙ every_same (sat ys s) (λ v. every_same (sat ss (prompt_of m s)) (λ q. every_n _))
 
-    pub closes13 : {d : ℕ} {x : Bool} → d ≡ default_set m ss s → x ≡ every a (λ v. every p (λ q. every d (λ o. every low (λ l. broken13 v q o l)))) → x ≡ closed13 m 0 ys ss s
+    pub closes13 : {d : ℕ} {x : Bool} → d ≡ default_set m ss s → x ≡ picked broken13 a p d low → x ≡ closed13 m 0 ys ss s
     unfolding closed13 prompt_set
     closes13 ed e = rw (ea, el, ep, ed) at e
 
@@ -64,14 +82,17 @@ module _ (m ys ss : List ℕ) (c : ℕ) {p some : ℕ} (ep : p ≡ sat ss (choic
   closes17 es eo e = rw (ep, es, eo) at e
 
 pub closes18 : (m ys ss : List ℕ) (s : ℕ) {o a b : ℕ} {x : Bool} → o ≡ modules_of m → a ≡ sat ys o → b ≡ sat ys s
-    → x ≡ every a (λ w. every b (λ v. broken18 w v)) → not (eqb o 65535) && x ≡ closed18 m 0 ys ss s
+    → x ≡ picked (λ w p d v. broken18 w v) a 1 1 b → not (eqb o 65535) && x ≡ closed18 m 0 ys ss s
 unfolding closed18
-closes18 m ys ss s eo ea eb e = rw (eo, (rw (ea, eo, eb) at e))
+closes18 m ys ss s eo ea eb e =
+    rw (eo, (rw (ea, eo, eb) at e) ∙ every_same (sat ys (modules_of m)) (λ v. every_n _ ∙ every_n _))
 
 pub closes20 : (m : List ℕ) (q : ℕ) (ys ss : List ℕ) {a c d : ℕ} {x : Bool} → a ≡ sat ys (selector_of m q) → c ≡ sat ss (condition_of m q)
-    → d ≡ sat ss (depend_of m (target_of m q)) → x ≡ every a (λ v. every c (λ u. every d (λ z. not (exceeds v u z)))) → x ≡ closed20 m q ys ss
+    → d ≡ sat ss (depend_of m (target_of m q)) → x ≡ picked (λ v u z l. not (exceeds v u z)) a c d 1 → x ≡ closed20 m q ys ss
 unfolding closed20 depend_set
-closes20 m q ys ss ea ec ed e = rw (ea, ec, ed) at e
+closes20 m q ys ss ea ec ed e =
+    (rw (ea, ec, ed) at e)
+    ∙ every_same (sat ys (selector_of m q)) (λ v. every_same (sat ss (condition_of m q)) (λ u. every_same (sat ss (depend_of m (target_of m q))) (λ z. every_n _)))
 
 -- a room cleared to its end
 pub cleared_all : (w : List ℕ) {d : List ℕ} {n k : ℕ} → n ≡ length w → length w ≡ k → d ≡ zeroed n w → d ≡ replicate k 0

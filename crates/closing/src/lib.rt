@@ -3,14 +3,14 @@
 // Total over any book and any sets; `closed_on` is what the walk calls, and whoever else has the sets of a path.
 #![tactic(auto)]
 
-ghost use Rattle.std.specs.Prelude.{◌≡◌, ◌<◌, ℕ, Bool, not};
+ghost use Rattle.std.specs.Prelude.{◌≡◌, ◌<◌, ℕ, Bool};
 ghost use Rattle.meaning.specs.Book.{member_count, member_of};
-ghost use Rattle.meaning.specs.Rules.{at_least, broken11, broken12, broken13, broken18, exceeds};
+ghost use Rattle.meaning.specs.Rules.{at_least};
 ghost use Rattle.meaning.specs.Sets.{every, sat, node_sets};
 ghost use Rattle.meaning.specs.Clearance.{closed11, closed12, closed13, closed15, closed17, closed18, closed20, closed as closed_of, closed_on};
 ghost use Rattle.sets.specs.Work.{blank_of};
 ghost use Rattle.sets.specs.Paths.{Stays};
-ghost use Rattle.closing.specs.Picks.{Tells, Bounds};
+ghost use Rattle.closing.specs.Picks.{Tells, TellsPick, Bounds};
 
 use sets::{Path, Set};
 
@@ -27,6 +27,36 @@ fn every<F: Fn(u8) -> bool>(set: Set, holds: F) -> bool
         }
     }
     true
+}
+
+// Whether a test holds under every pick of four values, each from a set of its own. What a rule does not read is picked from {n}.
+fn every_pick<F: Fn(u8, u8, u8, u8) -> bool>(a: Set, b: Set, c: Set, e: Set, holds: F) -> bool
+    requires { F.IsAlwaysCallable holds }
+    ensures { (t : ℕ → ℕ → ℕ → ℕ → Bool) → TellsPick (F.post holds) t → result ≡ every a.bits (λ v. every b.bits (λ p. every c.bits (λ d. every e.bits (t v p d)))) }
+{
+    every(
+        a,
+        |v|
+            requires { F.IsAlwaysCallable holds }
+            ensures { (t : ℕ → ℕ → ℕ → ℕ → Bool) → TellsPick (F.post holds) t → v < 3 → result ≡ every b.bits (λ p. every c.bits (λ d. every e.bits (t v p d))) }
+        {
+            every(
+                b,
+                |p|
+                    requires { F.IsAlwaysCallable holds }
+                    ensures { (t : ℕ → ℕ → ℕ → ℕ → Bool) → TellsPick (F.post holds) t → v < 3 → p < 3 → result ≡ every c.bits (λ d. every e.bits (t v p d)) }
+                {
+                    every(
+                        c,
+                        |d|
+                            requires { F.IsAlwaysCallable holds }
+                            ensures { (t : ℕ → ℕ → ℕ → ℕ → Bool) → TellsPick (F.post holds) t → v < 3 → p < 3 → d < 3 → result ≡ every e.bits (t v p d) }
+                        { every(e, |l| holds(v, p, d, l)) },
+                    )
+                },
+            )
+        },
+    )
 }
 
 // How many members of choice c are at least k, each by one bound of what it may be.
@@ -51,12 +81,8 @@ fn lower_closed(path: &mut Path, s: usize) -> bool
     ensures stays { Stays path.old path.new }
 {
     let low = path.lower(s);
-    every(
-        sets::at(path.ys, s),
-        |v|
-            ensures { result ≡ every low.bits (λ l. broken11 v l) }
-        { every(low, |l| v < l) },
-    )
+    let value = sets::at(path.ys, s);
+    every_pick(value, Set::N, Set::N, low, |v, _, _, l| v < l)
 }
 
 // 12 at s.
@@ -68,18 +94,13 @@ fn upper_closed(path: &mut Path, s: usize) -> bool
     let m = path.m;
     let prompt = path.node(fields::prompt_of(m, s));
     let low = path.lower(s);
-    every(
-        sets::at(path.ys, s),
-        |v|
-            ensures { result ≡ every prompt.bits (λ p. every low.bits (λ l. broken12 v p l)) }
-        {
-            every(
-                prompt,
-                |p|
-                    ensures { result ≡ every low.bits (λ l. broken12 v p l) }
-                { every(low, |l| (0 < p) & (l <= p) & (p < v)) },
-            )
-        },
+    let value = sets::at(path.ys, s);
+    every_pick(
+        value,
+        prompt,
+        Set::N,
+        low,
+        |v, p, _, l| (0 < p) & (l <= p) & (p < v),
     )
 }
 
@@ -91,27 +112,15 @@ fn default_closed(path: &mut Path, s: usize) -> bool
 {
     let m = path.m;
     let prompt = path.node(fields::prompt_of(m, s));
-    let value = path.default_of(s);
+    let default = path.default_of(s);
     let low = path.lower(s);
-    every(
-        sets::at(path.ys, s),
-        |v|
-            ensures { result ≡ every prompt.bits (λ p. every value.bits (λ d. every low.bits (λ l. broken13 v p d l))) }
-        {
-            every(
-                prompt,
-                |p|
-                    ensures { result ≡ every value.bits (λ d. every low.bits (λ l. broken13 v p d l)) }
-                {
-                    every(
-                        value,
-                        |d|
-                            ensures { result ≡ every low.bits (λ l. broken13 v p d l) }
-                        { every(low, |l| (p == 0) & (v != d.max(l))) },
-                    )
-                },
-            )
-        },
+    let value = sets::at(path.ys, s);
+    every_pick(
+        value,
+        prompt,
+        default,
+        low,
+        |v, p, d, l| (p == 0) & (v != d.max(l)),
     )
 }
 
@@ -145,15 +154,17 @@ fn mandatory_closed(path: &mut Path, c: usize) -> bool
 fn modules_closed(m: &[u8], ys: &[u8], s: usize) -> bool
     ensures { result ≡ closed18 m.now 0 ys.now (node_sets m.now ys.now) s }
 {
-    let modules = fields::modules(m);
+    let symbol = fields::modules(m);
+    let modules = sets::at(ys, symbol);
     let value = sets::at(ys, s);
-    let all = every(
-        sets::at(ys, modules),
-        |o|
-            ensures { result ≡ every value.bits (λ v. broken18 o v) }
-        { every(value, |v| (o == 0) & (v == 1)) },
+    let all = every_pick(
+        modules,
+        Set::N,
+        Set::N,
+        value,
+        |o, _, _, v| (o == 0) & (v == 1),
     );
-    (modules != 65535) & all
+    (symbol != 65535) & all
 }
 
 // Mark 20: select q is not unmet.
@@ -166,18 +177,12 @@ fn met(path: &mut Path, q: usize) -> bool
     let condition = path.node(fields::condition_of(m, q));
     let depend = path.node(fields::depend_of(m, fields::target_of(m, q)));
     let selector = sets::at(path.ys, fields::selector_of(m, q));
-    every(
+    every_pick(
         selector,
-        |a|
-            ensures { result ≡ every condition.bits (λ c. every depend.bits (λ d. not (exceeds a c d))) }
-        {
-            every(
-                condition,
-                |c|
-                    ensures { result ≡ every depend.bits (λ d. not (exceeds a c d)) }
-                { every(depend, |d| a.min(c) <= d) },
-            )
-        },
+        condition,
+        depend,
+        Set::N,
+        |a, c, d, _| a.min(c) <= d,
     )
 }
 
