@@ -9,7 +9,7 @@ ghost use Rattle.meaning.specs.Rules.{at_least};
 ghost use Rattle.meaning.specs.Sets.{every, sat, node_sets};
 ghost use Rattle.meaning.specs.Clearance.{closed11, closed12, closed13, closed15, closed17, closed18, closed20, closed as closed_of, closed_on};
 ghost use Rattle.sets.specs.Work.{blank_of};
-ghost use Rattle.sets.specs.Paths.{Stays};
+ghost use Rattle.sets.specs.Paths.{Stays, all_sets};
 ghost use Rattle.closing.specs.Picks.{Tells, TellsPick, Bounds};
 
 use sets::{Path, Set};
@@ -77,7 +77,7 @@ fn at_least<F: Fn(Set) -> u8>(m: &[u8], ys: &[u8], c: usize, k: u8, bound: F) ->
 // 11 at s.
 fn lower_closed(path: &mut Path, s: usize) -> bool
     requires { s < 65536 }
-    ensures closed { result ≡ closed11 path.old.m.now 0 path.old.ys.now (node_sets path.old.m.now path.old.ys.now) s }
+    ensures closed { result ≡ closed11 path.old.m.now 0 path.old.ys.now (all_sets path.old) s }
     ensures stays { Stays path.old path.new }
 {
     let low = path.lower(s);
@@ -88,7 +88,7 @@ fn lower_closed(path: &mut Path, s: usize) -> bool
 // 12 at s.
 fn upper_closed(path: &mut Path, s: usize) -> bool
     requires { s < 65536 }
-    ensures closed { result ≡ closed12 path.old.m.now 0 path.old.ys.now (node_sets path.old.m.now path.old.ys.now) s }
+    ensures closed { result ≡ closed12 path.old.m.now 0 path.old.ys.now (all_sets path.old) s }
     ensures stays { Stays path.old path.new }
 {
     let m = path.m;
@@ -107,7 +107,7 @@ fn upper_closed(path: &mut Path, s: usize) -> bool
 // 13 at s.
 fn default_closed(path: &mut Path, s: usize) -> bool
     requires { s < 65536 }
-    ensures closed { result ≡ closed13 path.old.m.now 0 path.old.ys.now (node_sets path.old.m.now path.old.ys.now) s }
+    ensures closed { result ≡ closed13 path.old.m.now 0 path.old.ys.now (all_sets path.old) s }
     ensures stays { Stays path.old path.new }
 {
     let m = path.m;
@@ -127,7 +127,7 @@ fn default_closed(path: &mut Path, s: usize) -> bool
 // 15 at c.
 fn one_closed(path: &mut Path, c: usize) -> bool
     requires { c < 65536 }
-    ensures closed { result ≡ closed15 path.old.m.now 0 path.old.ys.now (node_sets path.old.m.now path.old.ys.now) c }
+    ensures closed { result ≡ closed15 path.old.m.now 0 path.old.ys.now (all_sets path.old) c }
     ensures stays { Stays path.old path.new }
 {
     let m = path.m;
@@ -140,7 +140,7 @@ fn one_closed(path: &mut Path, c: usize) -> bool
 // 17 at c.
 fn mandatory_closed(path: &mut Path, c: usize) -> bool
     requires { c < 65536 }
-    ensures closed { result ≡ closed17 path.old.m.now 0 path.old.ys.now (node_sets path.old.m.now path.old.ys.now) c }
+    ensures closed { result ≡ closed17 path.old.m.now 0 path.old.ys.now (all_sets path.old) c }
     ensures stays { Stays path.old path.new }
 {
     let m = path.m;
@@ -170,7 +170,7 @@ fn modules_closed(m: &[u8], ys: &[u8], s: usize) -> bool
 // Mark 20: select q is not unmet.
 fn met(path: &mut Path, q: usize) -> bool
     requires { q < 65536 }
-    ensures closed { result ≡ closed20 path.old.m.now q path.old.ys.now (node_sets path.old.m.now path.old.ys.now) }
+    ensures closed { result ≡ closed20 path.old.m.now q path.old.ys.now (all_sets path.old) }
     ensures stays { Stays path.old path.new }
 {
     let m = path.m;
@@ -187,9 +187,10 @@ fn met(path: &mut Path, q: usize) -> bool
 }
 
 // Whether a leaf is closed, in a finding about select q.
+#[tactic(auto, unfolding(meaning::specs::Clearance::closed, meaning::specs::Clearance::closed11, meaning::specs::Clearance::closed12, meaning::specs::Clearance::closed13, meaning::specs::Clearance::closed15, meaning::specs::Clearance::closed17, meaning::specs::Clearance::closed18))]
 fn closed(path: &mut Path, q: usize, rule: u8, place: usize) -> bool
     requires { (q < 65536) × (place < 65536) }
-    ensures closed { result ≡ closed_of path.old.m.now q path.old.ys.now (node_sets path.old.m.now path.old.ys.now) rule place }
+    ensures closed { result ≡ closed_of path.old.m.now q path.old.ys.now (all_sets path.old) rule place }
     ensures stays { Stays path.old path.new }
 {
     match rule {

@@ -29,11 +29,6 @@ use Rattle.sets.specs.declared.Side.TheVariants.{Free, Three, Plain}
 pairs_like : {f g : ℕ → ℕ → ℕ} → ((x y : ℕ) → f x y ≡ g x y) → (a b : ℕ) → pairs f a b ≡ pairs g a b
 pairs_like h a b = ap (λ f. pairs f a b) (fun_ext (λ x. fun_ext (λ y. h x y)))
 
--- one value alone on either side
-pub row_one : (f : ℕ → ℕ → ℕ) (x c : ℕ) → row f x 1 c 3 ≡ with_one c (f x 0)
-unfolding row fold has
-row_one f x c = refl
-
 pairs_turned : (g : ℕ → ℕ) (a : ℕ) → pairs (λ x y. g x) a 1 ≡ pairs (λ x y. g y) 1 a
 unfolding pairs row fold has
 pairs_turned g a = refl

@@ -39,6 +39,7 @@ impl Set {
     pub const EITHER: Set = Set { bits: 5 };
 
     // The set of those of n, m and y that are told.
+    #[tactic(auto, unfolding(meaning::specs::Sets::set_of))]
     fn of(n: bool, m: bool, y: bool) -> Set
         ensures { (result.bits ≡ set_of n m y) × (result.bits < 8) }
     {
@@ -48,6 +49,7 @@ impl Set {
     }
 
     // One value alone.
+    #[tactic(auto, unfolding(meaning::specs::Sets::only))]
     pub fn only(v: u8) -> Set
         ensures { result.bits ≡ only_of v }
     {
@@ -59,6 +61,7 @@ impl Set {
     }
 
     // All that a type allows.
+    #[tactic(auto, unfolding(meaning::specs::Sets::full))]
     pub fn full(kind: u8) -> Set
         ensures { result.bits ≡ full_of kind }
     {
@@ -70,6 +73,7 @@ impl Set {
     }
 
     // Whether a set has a value.
+    #[tactic(auto, unfolding(meaning::specs::Sets::has))]
     pub fn has(self, v: u8) -> bool
         ensures { result ≡ has_of self.bits v }
     {
@@ -82,6 +86,7 @@ impl Set {
     }
 
     // A set's smallest value.
+    #[tactic(auto, unfolding(meaning::specs::Sets::least))]
     pub fn least(self) -> u8
         ensures { result ≡ least_of self.bits }
     {
@@ -92,6 +97,7 @@ impl Set {
     }
 
     // A set's largest value.
+    #[tactic(auto, unfolding(meaning::specs::Sets::most))]
     pub fn most(self) -> u8
         ensures { result ≡ most_of self.bits }
     {
@@ -102,6 +108,7 @@ impl Set {
     }
 
     // A set with one value more.
+    #[tactic(auto, unfolding(meaning::specs::Sets::with_one))]
     fn with(self, v: u8) -> Set
         ensures { (result.bits ≡ with_one self.bits v) × (result.bits < 8) }
     {
@@ -113,6 +120,7 @@ impl Set {
     }
 
     // The values of either set.
+    #[tactic(auto, unfolding(meaning::specs::Sets::join))]
     fn join(self, other: Set) -> Set
         ensures { (result.bits ≡ join_of self.bits other.bits) × (result.bits < 8) }
     {
@@ -143,6 +151,7 @@ impl Set {
     }
 
     // Not, of each value.
+    #[tactic(auto, unfolding(meaning::specs::Sets::not_set))]
     fn opposite(self) -> Set
         ensures { (result.bits ≡ not_set self.bits) × (result.bits < 8) }
     {
@@ -197,6 +206,7 @@ fn constant(left: usize) -> Set
 }
 
 // The set of leaf i: a constant's value, a symbol's set, {n} for a text or a number.
+#[tactic(auto, unfolding(meaning::specs::Sets::leaf_set))]
 fn leaf_set(m: &[u8], ys: &[u8], i: usize) -> Set
     requires { i < 2 ^ 32 }
     ensures { result.bits ≡ leaf_set m.now ys.now i }
@@ -211,6 +221,7 @@ fn leaf_set(m: &[u8], ys: &[u8], i: usize) -> Set
 }
 
 // Whether leaf i is a string, int or hex symbol.
+#[tactic(auto, unfolding(meaning::specs::Sets::is_free))]
 fn is_free(m: &[u8], i: usize) -> bool
     requires { i < 2 ^ 32 }
     ensures { result ≡ is_free m.now i }
@@ -396,6 +407,7 @@ pub fn settle(w: &mut [u8])
 }
 
 // Writes zero over the first n bytes.
+#[tactic(auto, unfolding(meaning::specs::Findings::zeroed))]
 pub fn clear(w: &mut [u8], n: usize)
     requires { n ≤ length w.old }
     ensures { w.new ≡ zeroed n w.old }
@@ -413,7 +425,7 @@ pub struct Path<'a> {
 }
 
 impl<'a> Path<'a> {
-    ghost use Rattle.sets.specs.Paths.{Stays, set_at};
+    ghost use Rattle.sets.specs.Paths.{Stays, all_sets, set_at};
 
     // The set of node i, if it is worked out.
     fn known(&self, i: usize) -> Option<Set>
@@ -547,9 +559,10 @@ impl<'a> Path<'a> {
     }
 
     // What select k may give its target.
+    #[tactic(auto, unfolding(meaning::specs::Sets::given_set))]
     fn given(&mut self, k: usize) -> Set
         requires { k < 2 ^ 32 }
-        ensures set { result.bits ≡ given_set self.old.m.now self.old.ys.now (node_sets self.old.m.now self.old.ys.now) k }
+        ensures set { result.bits ≡ given_set self.old.m.now self.old.ys.now (all_sets self.old) k }
         ensures stays { Stays self.old self.new }
     {
         let m = self.m;
@@ -558,9 +571,10 @@ impl<'a> Path<'a> {
     }
 
     // Lower's set so far, with select k added if it is on s, where the selects' start is at hand.
+    #[tactic(auto, unfolding(meaning::specs::Sets::lower_set_step))]
     fn raised(&mut self, selects: usize, s: usize, k: usize, low: Set) -> Set
         requires { (selects ≡ start_of self.old.m.now 4) × (selects < 65536) × (k < 2 ^ 32) }
-        ensures set { result.bits ≡ lower_set_step self.old.m.now self.old.ys.now (node_sets self.old.m.now self.old.ys.now) s k low.bits }
+        ensures set { result.bits ≡ lower_set_step self.old.m.now self.old.ys.now (all_sets self.old) s k low.bits }
         ensures stays { Stays self.old self.new }
     {
         if fields::target_from(self.m, selects, k) != s {
@@ -572,7 +586,7 @@ impl<'a> Path<'a> {
     // Lower's set of symbol s.
     #[tactic(auto, unfolding(meaning::specs::Base::fold, meaning::specs::Sets::lower_set))]
     pub fn lower(&mut self, s: usize) -> Set
-        ensures set { result.bits ≡ lower_set self.old.m.now self.old.ys.now (node_sets self.old.m.now self.old.ys.now) s }
+        ensures set { result.bits ≡ lower_set self.old.m.now self.old.ys.now (all_sets self.old) s }
         ensures stays { Stays self.old self.new }
     {
         let n = fields::selects(self.m);
@@ -599,7 +613,7 @@ impl<'a> Path<'a> {
 
     // Default's set of symbol s: what each default on it may give, up to the first whose condition is never n.
     pub fn default_of(&mut self, s: usize) -> Set
-        ensures set { result.bits ≡ default_set self.old.m.now (node_sets self.old.m.now self.old.ys.now) s }
+        ensures set { result.bits ≡ default_set self.old.m.now (all_sets self.old) s }
         ensures stays { Stays self.old self.new }
     {
         let m = self.m;

@@ -5,9 +5,6 @@ use Rattle.sets.specs.Work.{alike, by_letter}
 use Rattle.sets.proofs.Equal.{set_free_second, set_threes, set_three_other}
 use Rattle.sets.proofs.three_set.Goals as goal
 
-pub lone-letter-requires : goal.lone-letter-requires
-lone-letter-requires c = (c.requires.0, (rw c.in-Plain.is at c.side_of.ensures).2)
-
 pub returns-in-Free : goal.returns-in-Free
 returns-in-Free c = (set_free_second c.args.m.now c.args.ys.now c.args.i c.args.j (rw c.in-Free.is at c.side_of.ensures), omega arith)
 
