@@ -443,13 +443,14 @@ impl<'a> Path<'a> {
 
     // Keeps the set of node i. One past 7, as a byte of `ys` may be, is not kept.
     fn keep(&mut self, i: usize, set: Set)
+        requires node { i < nodes_of self.old.m.now }
         requires blank { blank_at self.old.m.now i ≡ 0 }
         requires due { set.bits ≡ set_at self.old i }
         ensures stays { Stays self.old self.new }
         ensures kept { self.new.w.now ≡ kept_at self.old.w.now i set.bits }
     {
         if set.bits < 8 {
-            raw::put(self.w, i, 8 + set.bits);
+            self.w[i] = 8 + set.bits;
         }
     }
 
@@ -491,7 +492,8 @@ impl<'a> Path<'a> {
         ensures stays { Stays self.old self.new }
         ensures out { WorkedOut self.old.m.now self.new.w.now (i + 1) }
     {
-        if self.known(i).is_some() {
+        // By the byte, which each node has: `known` asks whether there is one too, a tenth of the work where trees are deep.
+        if self.w[i] != 0 {
             return;
         }
         let set = self.from_before(i);
@@ -570,30 +572,20 @@ impl<'a> Path<'a> {
         at(self.ys, fields::selector_of(m, k)).both(condition)
     }
 
-    // Lower's set so far, with select k added if it is on s, where the selects' start is at hand.
-    #[tactic(auto, unfolding(meaning::specs::Sets::lower_set_step))]
-    fn raised(&mut self, selects: usize, s: usize, k: usize, low: Set) -> Set
-        requires { (selects ≡ start_of self.old.m.now 4) × (selects < 65536) × (k < 2 ^ 32) }
-        ensures set { result.bits ≡ lower_set_step self.old.m.now self.old.ys.now (all_sets self.old) s k low.bits }
-        ensures stays { Stays self.old self.new }
-    {
-        if fields::target_from(self.m, selects, k) != s {
-            return low;
-        }
-        low.either(self.given(k))
-    }
-
     // Lower's set of symbol s.
-    #[tactic(auto, unfolding(meaning::specs::Base::fold, meaning::specs::Sets::lower_set))]
+    #[tactic(auto, unfolding(meaning::specs::Base::fold, meaning::specs::Sets::lower_set, meaning::specs::Sets::lower_set_step))]
     pub fn lower(&mut self, s: usize) -> Set
         ensures set { result.bits ≡ lower_set self.old.m.now self.old.ys.now (all_sets self.old) s }
         ensures stays { Stays self.old self.new }
     {
-        let n = fields::selects(self.m);
-        let selects = fields::start(self.m, 4);
+        let m = self.m;
+        let n = fields::selects(m);
+        let selects = fields::start(m, 4);
         let mut low = Set::N;
         for k in 0..n {
-            low = self.raised(selects, s, k, low);
+            if fields::target_from(m, selects, k) == s {
+                low = low.either(self.given(k));
+            }
         }
         low
     }
