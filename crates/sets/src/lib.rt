@@ -560,31 +560,21 @@ impl<'a> Path<'a> {
         self.node_among(n, i, DEPTH)
     }
 
-    // What select k may give its target.
-    #[tactic(auto, unfolding(meaning::specs::Sets::given_set))]
-    fn given(&mut self, k: usize) -> Set
-        requires { k < 2 ^ 32 }
-        ensures set { result.bits ≡ given_set self.old.m.now self.old.ys.now (all_sets self.old) k }
-        ensures stays { Stays self.old self.new }
-    {
-        let m = self.m;
-        let condition = self.node(fields::condition_of(m, k));
-        at(self.ys, fields::selector_of(m, k)).both(condition)
-    }
-
-    // Lower's set of symbol s.
-    #[tactic(auto, unfolding(meaning::specs::Base::fold, meaning::specs::Sets::lower_set, meaning::specs::Sets::lower_set_step))]
+    // Lower's set of symbol s: the larger, of each pair of what was so far and of what the next select on s may give.
+    #[tactic(auto, unfolding(meaning::specs::Base::fold, meaning::specs::Sets::lower_set, meaning::specs::Sets::lower_set_step, meaning::specs::Sets::given_set))]
     pub fn lower(&mut self, s: usize) -> Set
         ensures set { result.bits ≡ lower_set self.old.m.now self.old.ys.now (all_sets self.old) s }
         ensures stays { Stays self.old self.new }
     {
-        let m = self.m;
+        let (m, ys) = (self.m, self.ys);
         let n = fields::selects(m);
         let selects = fields::start(m, 4);
         let mut low = Set::N;
         for k in 0..n {
             if fields::target_from(m, selects, k) == s {
-                low = low.either(self.given(k));
+                let condition = self.node(fields::condition_of(m, k));
+                let selector = at(ys, fields::selector_of(m, k));
+                low = low.either(selector.both(condition));
             }
         }
         low
