@@ -4,13 +4,13 @@
 // only what is read is worked out, and that once.
 #![tactic(auto)]
 
-ghost use Rattle.std.specs.Prelude.{◌≡◌, ◌||◌, true, false, ℕ, ◌+◌, ◌<◌, ◌≤◌, ◌^◌, eqb, leb, length, get_or, IfSome, IfNone};
-ghost use Rattle.tri.specs.Three.{tri_of, not_of, and_of, or_of};
+ghost use Rattle.std.specs.Prelude.{◌≡◌, ◌||◌, true, false, ℕ, ◌+◌, ◌<◌, ◌≤◌, ◌^◌, leb, length, get_or, IfSome, IfNone};
+ghost use Rattle.tri.specs.Three.{tri_of, and_of, or_of};
 ghost use Rattle.meaning.specs.Base.{pick};
-ghost use Rattle.meaning.specs.Book.{start as start_of, nodes as nodes_of, op_of, default_value};
+ghost use Rattle.meaning.specs.Book.{nodes as nodes_of, op_of, default_value};
 ghost use Rattle.meaning.specs.Sets.{has as has_of, set_of, only as only_of, full as full_of, with_one, join as join_of, pairs as pairs_of};
-ghost use Rattle.meaning.specs.Sets.{least as least_of, most as most_of, sat, leaf_set, is_free, equal_at, equal_set, not_set, node_sets};
-ghost use Rattle.meaning.specs.Sets.{given_set, lower_set_step, lower_set, default_set};
+ghost use Rattle.meaning.specs.Sets.{least as least_of, most as most_of, sat, leaf_set, is_free, equal_at, equal_set, not_set};
+ghost use Rattle.meaning.specs.Sets.{lower_set, default_set};
 ghost use Rattle.meaning.specs.Findings.{zeroed};
 ghost use Rattle.sets.specs.Work.{Makes, combined, SideOf, Lone, by_letter, equality_of, among, fixed, blank_at, blank_of, lasting, kept_at, Known, WorkedOut};
 ghost use Rattle.sets.specs.Single.{known_single};
