@@ -3,191 +3,204 @@
 // Total over any book and any sets; `closed_on` is what the walk calls, and whoever else has the sets of a path.
 #![tactic(auto)]
 
-ghost use Rattle.std.specs.Prelude.{◌≡◌, ◌&&◌, ◌<◌, ltb};
-ghost use Rattle.meaning.specs.Book.{member_count};
+ghost use Rattle.std.specs.Prelude.{◌≡◌, ◌<◌, ℕ, Bool};
+ghost use Rattle.meaning.specs.Book.{member_count, member_of};
 ghost use Rattle.meaning.specs.Rules.{at_least};
-ghost use Rattle.meaning.specs.Sets.{every, node_sets};
+ghost use Rattle.meaning.specs.Sets.{every, sat, node_sets};
 ghost use Rattle.meaning.specs.Clearance.{closed11, closed12, closed13, closed15, closed17, closed18, closed20, closed as closed_of, closed_on};
-ghost use Rattle.sets.specs.Work.{Known, blank_of};
-ghost use Rattle.closing.specs.Broken.{broken_by, every_pick, bound_of};
+ghost use Rattle.sets.specs.Work.{blank_of};
+ghost use Rattle.sets.specs.Paths.{Stays, all_sets};
+ghost use Rattle.closing.specs.Picks.{Tells, TellsPick, Bounds};
 
-use tri::Tri;
+use sets::{Path, Set};
 
-// Whether a rule is broken by these picks.
-fn broken(rule: u8, v: u8, p: u8, d: u8, l: u8) -> bool
-    ensures { result ≡ broken_by rule v p d l }
+// Whether a test holds under every pick of a value from a set.
+fn every<F: Fn(u8) -> bool>(set: Set, holds: F) -> bool
+    requires { F.IsAlwaysCallable holds }
+    ensures { (p : ℕ → Bool) → Tells (F.post holds) p → result ≡ every set.bits p }
 {
-    let due = Tri { v: d }.or(Tri { v: l });
-    let gives = Tri { v: v }.and(Tri { v: p });
-    match rule {
-        11 => v < l,
-        12 => (0 < p) & (l <= p) & (p < v),
-        13 => (p == 0) & (v != due.v),
-        18 => (v == 0) & (l == 1),
-        _ => !(d < gives.v),
-    }
-}
-
-// Whether a rule is broken under every pick from a, b, c and e.
-fn every_pick(rule: u8, a: u8, b: u8, c: u8, e: u8) -> bool
-    ensures { result ≡ every_pick rule a b c e }
-{
-    let mut all = true;
-    'picks: for v in 0u8..3 {
-        if sets::has(a, v) {
-            for p in 0u8..3 {
-                if sets::has(b, p) {
-                    for d in 0u8..3 {
-                        if sets::has(c, d) {
-                            for l in 0u8..3 {
-                                if sets::has(e, l) {
-                                    if !broken(rule, v, p, d, l) {
-                                        all = false;
-                                        break 'picks;
-                                    }
-                                }
-                            }
-                        }
-                    }
-                }
+    for v in 0u8..3 {
+        if set.has(v) {
+            if !holds(v) {
+                return false;
             }
         }
     }
-    all
+    true
 }
 
-// Whether under every pick from a prompt's set it is above n, and x and y hold.
-fn every_prompt(a: u8, x: bool, y: bool) -> bool
-    ensures { result ≡ every a (λ p. ltb 0 p && x && y) }
+// Whether a test holds under every pick of four values, each from a set of its own. What a rule does not read is picked from {n}.
+fn every_pick<F: Fn(u8, u8, u8, u8) -> bool>(a: Set, b: Set, c: Set, e: Set, holds: F) -> bool
+    requires { F.IsAlwaysCallable holds }
+    ensures { (t : ℕ → ℕ → ℕ → ℕ → Bool) → TellsPick (F.post holds) t → result ≡ every a.bits (λ v. every b.bits (λ p. every c.bits (λ d. every e.bits (t v p d)))) }
 {
-    let mut all = true;
-    'picks: for p in 0u8..3 {
-        if sets::has(a, p) {
-            if !((0 < p) & x & y) {
-                all = false;
-                break 'picks;
-            }
-        }
-    }
-    all
+    every(
+        a,
+        |v|
+            requires { F.IsAlwaysCallable holds }
+            ensures { (t : ℕ → ℕ → ℕ → ℕ → Bool) → TellsPick (F.post holds) t → v < 3 → result ≡ every b.bits (λ p. every c.bits (λ d. every e.bits (t v p d))) }
+        {
+            every(
+                b,
+                |p|
+                    requires { F.IsAlwaysCallable holds }
+                    ensures { (t : ℕ → ℕ → ℕ → ℕ → Bool) → TellsPick (F.post holds) t → v < 3 → p < 3 → result ≡ every c.bits (λ d. every e.bits (t v p d)) }
+                {
+                    every(
+                        c,
+                        |d|
+                            requires { F.IsAlwaysCallable holds }
+                            ensures { (t : ℕ → ℕ → ℕ → ℕ → Bool) → TellsPick (F.post holds) t → v < 3 → p < 3 → d < 3 → result ≡ every e.bits (t v p d) }
+                        { every(e, |l| holds(v, p, d, l)) },
+                    )
+                },
+            )
+        },
+    )
 }
 
-// The most or the least that choice c's member j may be.
-fn bound(m: &[u8], ys: &[u8], c: usize, largest: bool, j: usize) -> u8
-    requires { (c < 65536) × (j < 131072) }
-    ensures { result ≡ bound_of m.now ys.now c largest j }
-{
-    let set = sets::at(ys, choice_rules::member(m, c, j));
-    if largest {
-        sets::most(set)
-    } else {
-        sets::least(set)
-    }
-}
-
-// How many members of choice c are at least k, each by the most or the least that it may be.
-fn at_least(m: &[u8], ys: &[u8], c: usize, largest: bool, k: u8) -> usize
-    requires { c < 65536 }
-    ensures { result ≡ at_least (bound_of m.now ys.now c largest) (member_count m.now c) k }
+// How many members of choice c are at least k, each by one bound of what it may be.
+fn at_least<F: Fn(Set) -> u8>(m: &[u8], ys: &[u8], c: usize, k: u8, bound: F) -> usize
+    requires choice { c < 65536 }
+    requires callable { F.IsAlwaysCallable bound }
+    ensures { (g : ℕ → ℕ) → Bounds (F.post bound) g → result ≡ at_least (λ j. g (sat ys.now (member_of m.now c j))) (member_count m.now c) k }
 {
     let n = fields::member_count(m, c);
     let mut found = 0;
     for j in 0..n {
-        let v = bound(m, ys, c, largest, j);
+        let v = bound(sets::at(ys, choice_rules::member(m, c, j)));
         found = choice_rules::counted(k <= v, found);
     }
     found
 }
 
 // 11 at s.
-fn lower_closed(m: &[u8], ys: &[u8], w: &mut [u8], s: usize) -> bool
-    requires { (s < 65536) × Known m.now ys.now w.old }
-    ensures { (result ≡ closed11 m.now 0 ys.now (node_sets m.now ys.now) s) × Known m.now ys.now w.new }
+fn lower_closed(path: &mut Path, s: usize) -> bool
+    requires { s < 65536 }
+    ensures closed { result ≡ closed11 path.old.m.now 0 path.old.ys.now (all_sets path.old) s }
+    ensures stays { Stays path.old path.new }
 {
-    let low = sets::lower(m, ys, w, s);
-    every_pick(11, sets::at(ys, s), 1, 1, low)
+    let low = path.lower(s);
+    let value = sets::at(path.ys, s);
+    every_pick(value, Set::N, Set::N, low, |v, _, _, l| v < l)
 }
 
 // 12 at s.
-fn upper_closed(m: &[u8], ys: &[u8], w: &mut [u8], s: usize) -> bool
-    requires { (s < 65536) × Known m.now ys.now w.old }
-    ensures { (result ≡ closed12 m.now 0 ys.now (node_sets m.now ys.now) s) × Known m.now ys.now w.new }
+fn upper_closed(path: &mut Path, s: usize) -> bool
+    requires { s < 65536 }
+    ensures closed { result ≡ closed12 path.old.m.now 0 path.old.ys.now (all_sets path.old) s }
+    ensures stays { Stays path.old path.new }
 {
-    let prompt = sets::node(m, ys, w, fields::prompt_of(m, s));
-    let low = sets::lower(m, ys, w, s);
-    every_pick(12, sets::at(ys, s), prompt, 1, low)
+    let m = path.m;
+    let prompt = path.node(fields::prompt_of(m, s));
+    let low = path.lower(s);
+    let value = sets::at(path.ys, s);
+    every_pick(
+        value,
+        prompt,
+        Set::N,
+        low,
+        |v, p, _, l| (0 < p) & (l <= p) & (p < v),
+    )
 }
 
 // 13 at s.
-fn default_closed(m: &[u8], ys: &[u8], w: &mut [u8], s: usize) -> bool
-    requires { (s < 65536) × Known m.now ys.now w.old }
-    ensures { (result ≡ closed13 m.now 0 ys.now (node_sets m.now ys.now) s) × Known m.now ys.now w.new }
+fn default_closed(path: &mut Path, s: usize) -> bool
+    requires { s < 65536 }
+    ensures closed { result ≡ closed13 path.old.m.now 0 path.old.ys.now (all_sets path.old) s }
+    ensures stays { Stays path.old path.new }
 {
-    let prompt = sets::node(m, ys, w, fields::prompt_of(m, s));
-    let value = sets::default_of(m, ys, w, s);
-    let low = sets::lower(m, ys, w, s);
-    every_pick(13, sets::at(ys, s), prompt, value, low)
+    let m = path.m;
+    let prompt = path.node(fields::prompt_of(m, s));
+    let default = path.default_of(s);
+    let low = path.lower(s);
+    let value = sets::at(path.ys, s);
+    every_pick(
+        value,
+        prompt,
+        default,
+        low,
+        |v, p, d, l| (p == 0) & (v != d.max(l)),
+    )
 }
 
 // 15 at c.
-fn one_closed(m: &[u8], ys: &[u8], w: &mut [u8], c: usize) -> bool
-    requires { (c < 65536) × Known m.now ys.now w.old }
-    ensures { (result ≡ closed15 m.now 0 ys.now (node_sets m.now ys.now) c) × Known m.now ys.now w.new }
+fn one_closed(path: &mut Path, c: usize) -> bool
+    requires { c < 65536 }
+    ensures closed { result ≡ closed15 path.old.m.now 0 path.old.ys.now (all_sets path.old) c }
+    ensures stays { Stays path.old path.new }
 {
-    let prompt = sets::node(m, ys, w, fields::choice_prompt(m, c));
-    let some = at_least(m, ys, c, false, 1);
-    let yes = at_least(m, ys, c, false, 2);
-    every_prompt(prompt, 2 <= some, 1 <= yes)
+    let m = path.m;
+    let prompt = path.node(fields::choice_prompt(m, c));
+    let some = at_least(m, path.ys, c, 1, Set::least);
+    let yes = at_least(m, path.ys, c, 2, Set::least);
+    every(prompt, |p| (0 < p) & (2 <= some) & (1 <= yes))
 }
 
 // 17 at c.
-fn mandatory_closed(m: &[u8], ys: &[u8], w: &mut [u8], c: usize) -> bool
-    requires { (c < 65536) × Known m.now ys.now w.old }
-    ensures { (result ≡ closed17 m.now 0 ys.now (node_sets m.now ys.now) c) × Known m.now ys.now w.new }
+fn mandatory_closed(path: &mut Path, c: usize) -> bool
+    requires { c < 65536 }
+    ensures closed { result ≡ closed17 path.old.m.now 0 path.old.ys.now (all_sets path.old) c }
+    ensures stays { Stays path.old path.new }
 {
-    let prompt = sets::node(m, ys, w, fields::choice_prompt(m, c));
-    let some = at_least(m, ys, c, true, 1);
-    every_prompt(prompt, fields::mandatory_of(m, c) == 1, some == 0)
+    let m = path.m;
+    let prompt = path.node(fields::choice_prompt(m, c));
+    let mandatory = fields::mandatory_of(m, c);
+    let some = at_least(m, path.ys, c, 1, Set::most);
+    every(prompt, |p| (0 < p) & (mandatory == 1) & (some == 0))
 }
 
 // 18 at s.
 fn modules_closed(m: &[u8], ys: &[u8], s: usize) -> bool
     ensures { result ≡ closed18 m.now 0 ys.now (node_sets m.now ys.now) s }
 {
-    let modules = fields::modules(m);
-    let all = every_pick(18, sets::at(ys, modules), 1, 1, sets::at(ys, s));
-    (modules != 65535) & all
+    let symbol = fields::modules(m);
+    let modules = sets::at(ys, symbol);
+    let value = sets::at(ys, s);
+    let all = every_pick(
+        modules,
+        Set::N,
+        Set::N,
+        value,
+        |o, _, _, v| (o == 0) & (v == 1),
+    );
+    (symbol != 65535) & all
 }
 
 // Mark 20: select q is not unmet.
-fn met(m: &[u8], q: usize, ys: &[u8], w: &mut [u8]) -> bool
-    requires { (q < 65536) × Known m.now ys.now w.old }
-    ensures { (result ≡ closed20 m.now q ys.now (node_sets m.now ys.now)) × Known m.now ys.now w.new }
+fn met(path: &mut Path, q: usize) -> bool
+    requires { q < 65536 }
+    ensures closed { result ≡ closed20 path.old.m.now q path.old.ys.now (all_sets path.old) }
+    ensures stays { Stays path.old path.new }
 {
-    let condition = sets::node(m, ys, w, fields::condition_of(m, q));
-    let depend = sets::node(m, ys, w, fields::depend_of(m, fields::target_of(m, q)));
+    let m = path.m;
+    let condition = path.node(fields::condition_of(m, q));
+    let depend = path.node(fields::depend_of(m, fields::target_of(m, q)));
+    let selector = sets::at(path.ys, fields::selector_of(m, q));
     every_pick(
-        20,
-        sets::at(ys, fields::selector_of(m, q)),
+        selector,
         condition,
         depend,
-        1,
+        Set::N,
+        |a, c, d, _| a.min(c) <= d,
     )
 }
 
 // Whether a leaf is closed, in a finding about select q.
-fn closed(m: &[u8], q: usize, ys: &[u8], w: &mut [u8], rule: u8, place: usize) -> bool
-    requires { (q < 65536) × (place < 65536) × Known m.now ys.now w.old }
-    ensures { (result ≡ closed_of m.now q ys.now (node_sets m.now ys.now) rule place) × Known m.now ys.now w.new }
+#[tactic(auto, unfolding(meaning::specs::Clearance::closed, meaning::specs::Clearance::closed11, meaning::specs::Clearance::closed12, meaning::specs::Clearance::closed13, meaning::specs::Clearance::closed15, meaning::specs::Clearance::closed17, meaning::specs::Clearance::closed18))]
+fn closed(path: &mut Path, q: usize, rule: u8, place: usize) -> bool
+    requires { (q < 65536) × (place < 65536) }
+    ensures closed { result ≡ closed_of path.old.m.now q path.old.ys.now (all_sets path.old) rule place }
+    ensures stays { Stays path.old path.new }
 {
     match rule {
-        11 => lower_closed(m, ys, w, place),
-        12 => upper_closed(m, ys, w, place),
-        13 => default_closed(m, ys, w, place),
-        15 => one_closed(m, ys, w, place),
-        17 => mandatory_closed(m, ys, w, place),
-        18 => modules_closed(m, ys, place),
-        20 => met(m, q, ys, w),
+        11 => lower_closed(path, place),
+        12 => upper_closed(path, place),
+        13 => default_closed(path, place),
+        15 => one_closed(path, place),
+        17 => mandatory_closed(path, place),
+        18 => modules_closed(path.m, path.ys, place),
+        20 => met(path, q),
         _ => false,
     }
 }
@@ -197,7 +210,8 @@ pub fn closed_on(m: &[u8], q: usize, ys: &[u8], w: &mut [u8], rule: u8, place: u
     requires { (q < 65536) × (place < 65536) × (w.old ≡ blank_of m.now) }
     ensures { (result ≡ closed_on m.now q ys.now rule place) × (w.new ≡ w.old) }
 {
-    let all = closed(m, q, ys, w, rule, place);
+    let mut path = Path { m, ys, w: &mut *w };
+    let all = closed(&mut path, q, rule, place);
     sets::settle(w);
     all
 }

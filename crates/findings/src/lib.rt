@@ -14,6 +14,7 @@ ghost use Rattle.findings.specs.Walks.{walked, splits_at};
 ghost use Rattle.findings.specs.Found.{Found};
 
 use meaning::{Head, Outcome, Refusal, Stop, Walked, refuse, refuse_if};
+use sets::Set;
 
 // 21: the finding's length, its select, its kind, its zero.
 #[tactic(auto, unfolding(meaning::specs::Findings::head_fault, meaning::specs::Findings::select_of, meaning::specs::Findings::finding_kind, meaning::specs::Base::when))]
@@ -76,7 +77,7 @@ fn head_at(m: &[u8], q: usize, f: &[u8], ys: &[u8], at: u16) -> Option<Head>
     }
     if mark == 0 && from + 3 <= f.len() {
         let s = raw::half(f, from + 1);
-        return split_head(sets::at(ys, s), s as u16, at + 3);
+        return split_head(sets::at(ys, s).bits, s as u16, at + 3);
     }
     None
 }
@@ -109,7 +110,7 @@ fn splits(f: &[u8], ys: &[u8], at: u16) -> bool
     ensures { result ≡ splits_at f.now ys.now at }
 {
     let from = usize::from(at);
-    let set = sets::at(ys, raw::half(f, from + 1));
+    let set = sets::at(ys, raw::half(f, from + 1)).bits;
     (raw::byte(f, from) == 0) & (from + 3 <= f.len()) & ((set == 5) | (set == 7))
 }
 
@@ -136,12 +137,12 @@ fn split(m: &&[u8], f: &&[u8], left: usize, at: u16, ys: &mut [u8], w: &mut [u8]
     let all = sets::at(ys, s);
     let mut reached = Ok(at + 3);
     for v in 0u8..3 {
-        if sets::has(all, v) {
-            raw::put(ys, s, sets::only(v));
+        if all.has(v) {
+            raw::put(ys, s, Set::only(v).bits);
             reached = branch(m, f, left - 1, reached, ys, w);
         }
     }
-    raw::put(ys, s, all);
+    raw::put(ys, s, all.bits);
     reached
 }
 
@@ -151,7 +152,7 @@ fn fill_sets(m: &[u8], ys: &mut [u8])
     ensures { ys.new ≡ full_sets m.now }
 {
     for s in 0..fields::symbols(m) {
-        ys[s] = sets::full(fields::type_of(m, s));
+        ys[s] = Set::full(fields::type_of(m, s)).bits;
     }
 }
 

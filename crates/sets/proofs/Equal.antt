@@ -21,16 +21,13 @@ use Rattle.spell.specs.declared.Leaf.{Leaf}
 use Rattle.spell.specs.Leaves.{leaf_content, spelled_leaf}
 use Rattle.sets.proofs.Laws.{at_other, equal_at_is}
 use Rattle.sets.specs.Work.{alike, by_letter, SideOf, Lone, fixed}
+use Rattle.std.specs.Prelude.{Option, Some, None}
+use Rattle.sets.specs.declared.Set.{Set}
 use Rattle.sets.specs.declared.Side.TheVariants.{Free, Three, Plain}
 
 -- PAIRS of which another operation makes the same
 pairs_like : {f g : ℕ → ℕ → ℕ} → ((x y : ℕ) → f x y ≡ g x y) → (a b : ℕ) → pairs f a b ≡ pairs g a b
 pairs_like h a b = ap (λ f. pairs f a b) (fun_ext (λ x. fun_ext (λ y. h x y)))
-
--- one value alone on either side
-pub row_one : (f : ℕ → ℕ → ℕ) (x c : ℕ) → row f x 1 c 3 ≡ with_one c (f x 0)
-unfolding row fold has
-row_one f x c = refl
 
 pairs_turned : (g : ℕ → ℕ) (a : ℕ) → pairs (λ x y. g x) a 1 ≡ pairs (λ x y. g y) 1 a
 unfolding pairs row fold has
@@ -122,12 +119,12 @@ module _ (m ys : List ℕ) (i : ℕ) {op : ℕ} (eo : op ≡ op_of m i) where
   )
 
   module _ {left : ℕ} (el : left ≡ left_of m i) where
-    pub side_constant : {a : ℕ} → op ≡ 0 → a ≡ only (tri_of left) → SideOf m ys i (Three a)
+    pub side_constant : {a : Set} → op ≡ 0 → a.bits ≡ only (tri_of left) → SideOf m ys i (Three a)
     unfolding is_free leaf_set
     side_constant z ea = (rw (← eo, z), rw (← eo, z, ← el) ea, rw (← eo, z))
 
     module _ {three : Bool} (z : op ≡ 1) (et : three ≡ three_type m left) where
-      pub side_three : {a : ℕ} → three ≡ true → a ≡ sat ys left → SideOf m ys i (Three a)
+      pub side_three : {a : Set} → three ≡ true → a.bits ≡ sat ys left → SideOf m ys i (Three a)
       unfolding is_free leaf_set
       side_three t ea = (rw (← eo, z, ← el, ← et, t), rw (← eo, z, ← el) ea, rw (← eo, z))
 
@@ -137,17 +134,17 @@ module _ (m ys : List ℕ) (i : ℕ) {op : ℕ} (eo : op ≡ op_of m i) where
 
 -- LEAVES against a letter: a number, a text of one byte, any other text, and what is no leaf
 module _ (m : List ℕ) (i : ℕ) {op : ℕ} (eo : op ≡ op_of m i) where
-  pub lone_number : leb (op_of m i) 1 ≡ false → op ≤ 4 → (op ≡ 2 → ⊥) → Lone m i 0
+  pub lone_number : leb (op_of m i) 1 ≡ false → op ≤ 4 → (op ≡ 2 → ⊥) → Lone m i None
   unfolding spelled_at leaf_of
   lone_number lo hi nt v x = ⊎_elim int hex (eq-or-lt_of_le {n = 3} {m = op} (omega (arith, leb-false (op_of m i) 1 lo, eo)))
     where
-      int : 3 ≡ op → same_text (letter v ∷ []) (spelled_at m i x) ≡ eqb (letter v) 0
-      int e = rw (← eo, ← e) (letter_int v (signed_of (number_of m i))) ∙ sym (no_letter v 0 (omega arith))
+      int : 3 ≡ op → same_text (letter v ∷ []) (spelled_at m i x) ≡ false
+      int e = rw (← eo, ← e) (letter_int v (signed_of (number_of m i)))
 
-      hex : 3 < op → same_text (letter v ∷ []) (spelled_at m i x) ≡ eqb (letter v) 0
-      hex l = let e : op ≡ 4 = omega arith in rw (← eo, e) (letter_hex v (number_of m i)) ∙ sym (no_letter v 0 (omega arith))
+      hex : 3 < op → same_text (letter v ∷ []) (spelled_at m i x) ≡ false
+      hex l = let e : op ≡ 4 = omega arith in rw (← eo, e) (letter_hex v (number_of m i))
 
-  pub lone_no_leaf : {b : ℕ} → 4 < op → b ≡ letter 0 → Lone m i b
+  pub lone_no_leaf : {b : ℕ} → 4 < op → b ≡ letter 0 → Lone m i (Some b)
   unfolding spelled_at leaf_of same_text
   lone_no_leaf lo eb v x =
       rw (← eo, lt-leb op 1 (omega arith), ne_eqb op 0 (λ z. omega arith), ne_eqb op 1 (λ z. omega arith), ne_eqb op 2 (λ z. omega arith), ne_eqb op 3 (λ z. omega arith), ne_eqb op 4 (λ z. omega arith), eb)
@@ -158,12 +155,12 @@ module _ (m : List ℕ) (i : ℕ) {op : ℕ} (eo : op ≡ op_of m i) where
     unfolding spelled_at leaf_of
     text_is x = rw (← eo, two) el
 
-    pub lone_text : {b : ℕ} → length l ≡ 1 → b ≡ get_or l 0 0 → Lone m i b
+    pub lone_text : {b : ℕ} → length l ≡ 1 → b ≡ get_or l 0 0 → Lone m i (Some b)
     lone_text e eb v x = rw (← text_is x, eb) (one_alike (letter v) l e)
 
-    pub lone_texts : (length l ≡ 1 → ⊥) → Lone m i 0
+    pub lone_texts : (length l ≡ 1 → ⊥) → Lone m i None
     unfolding same_text
-    lone_texts nt v x = rw (← text_is x) (by l nt) ∙ sym (no_letter v 0 (omega arith))
+    lone_texts nt v x = rw (← text_is x) (by l nt)
       where
         by : (k : List ℕ) → (length k ≡ 1 → ⊥) → same_text (letter v ∷ []) k ≡ false
         by [] n = refl
@@ -192,12 +189,12 @@ module _ (m ys : List ℕ) (i j : ℕ) (fi : is_free m i ≡ false) (fj : is_fre
   unfolding equal_at spelled_at same_text
   set_threes ea eb ti tj er = by_pairs ea eb (λ x y. rw (ti, tj) (ap yes_no (sym (and-true (eqb (letter x) (letter y)))))) er
 
-  pub set_three_other : (c : ℕ) {a r : ℕ} → a ≡ leaf_set m ys i → 1 ≡ leaf_set m ys j → leb (op_of m i) 1 ≡ true → Lone m j c → r ≡ pairs (λ x y. by_letter c x) a 1
+  pub set_three_other : (c : Option ℕ) {a r : ℕ} → a ≡ leaf_set m ys i → 1 ≡ leaf_set m ys j → leb (op_of m i) 1 ≡ true → Lone m j c → r ≡ pairs (λ x y. by_letter c x) a 1
       → r ≡ equal_set m ys i j
   unfolding equal_at spelled_at
   set_three_other c ea eb ti lone er = by_pairs ea eb (λ x y. rw ti (ap yes_no (sym (lone x y)))) er
 
-  pub set_other_three : (c : ℕ) {b r : ℕ} → 1 ≡ leaf_set m ys i → b ≡ leaf_set m ys j → leb (op_of m j) 1 ≡ true → Lone m i c → r ≡ pairs (λ x y. by_letter c x) b 1
+  pub set_other_three : (c : Option ℕ) {b r : ℕ} → 1 ≡ leaf_set m ys i → b ≡ leaf_set m ys j → leb (op_of m j) 1 ≡ true → Lone m i c → r ≡ pairs (λ x y. by_letter c x) b 1
       → r ≡ equal_set m ys i j
   unfolding equal_at spelled_at
   set_other_three c {b} ea eb tj lone er =

@@ -7,15 +7,16 @@ use Prim.Native.Nat.{ℕ, zero, suc, ◌+◌, ◌*◌, ◌≤◌, ◌<◌}
 use native.Mathlib.Nat.{eq-or-lt_of_le, le_of_suc-le-suc}
 use native.Mathlib.Omega.{arith}
 use lib.Dec.{eqb, leb, ltb}
-use lib.ListN.{length, get_or, set, length-set, get_or-append, get_or-eq_default}
-use lib.Seq.{get_or_at, get_or-set_same, get_or-set_other, ext_get_or}
-use borrow.Author.Tests.{eqb-true, eqb-false, ltb-true, ltb-false, leb-true, leb-false, ne_eqb, le-leb, lt-leb, lt-ltb, le-ltb}
-use borrow.Author.Count.{below_none, below_more}
+use lib.ListN.{length, get_or, get_or-append, get_or-eq_default}
+use lib.Seq.{get_or_at, ext_get_or}
+use borrow.Author.Tests.{ltb-true, ltb-false, leb-true, leb-false, ne_eqb, le-leb, lt-leb, lt-ltb, le-ltb}
+use Rattle.std.specs.Prelude.{Option, Some, None, IfSome, IfNone, unwrap_or}
+use Rattle.sets.specs.declared.Set.{Set}
 use Rattle.meaning.specs.Base.{pick, fold, build, tabulate, part}
 use Rattle.meaning.specs.Book.{nodes, op_of, left_of, right_of}
 use Rattle.meaning.specs.Sets.{has, set_of, with_one, row, pairs, sat, not_set, leaf_set, is_free, equal_set, node_set, node_sets}
 use Rattle.meaning.proofs.Folds.{build-length, tabulate-length, tabulate_at}
-use Rattle.sets.specs.Work.{applied, equality_of, among, fixed, blank_at, blank_of, lasting, kept_set, Known, WorkedOut}
+use Rattle.sets.specs.Work.{combined, equality_of, among, fixed, blank_at, blank_of, lasting, kept_set, Known, WorkedOut}
 use Rattle.sets.proofs.Laws.{none_part}
 use Rattle.sets.proofs.Equal.{fixed_same}
 
@@ -33,6 +34,13 @@ module _ (m ys : List ℕ) where
   pub among_past : (n i : ℕ) → n ≤ i → 1 ≡ among m ys n i
   among_past n i h = sym (get_or-eq_default (build (node_set m ys) n) 1 (rw (build-length (node_set m ys) n) h))
 
+  pub settled : (n i : ℕ) {v : ℕ} → i < n → v ≡ node_set m ys (build (node_set m ys) i) i → v ≡ among m ys n i
+  settled n i lt e = e ∙ sym (among_is n i lt)
+
+  pub due : (i : ℕ) {v : ℕ} → i < nodes m → v ≡ node_set m ys (build (node_set m ys) i) i → v ≡ sat (node_sets m ys) i
+  unfolding node_sets
+  due i lt e = settled (nodes m) i lt e
+
   -- the same among all
   pub among-whole : (n i : ℕ) → i < n → n ≤ nodes m → among m ys n i ≡ sat (node_sets m ys) i
   unfolding node_sets
@@ -49,19 +57,18 @@ module _ (m ys ss : List ℕ) (i : ℕ) {op : ℕ} (eo : op ≡ op_of m i) where
   node-leaf h e = rw (← eo, le-leb op 4 h) e
 
   module _ {left right : ℕ} (el : left ≡ left_of m i) (er : right ≡ right_of m i) where
-    pub node_inner : {l k b r : ℕ} → 4 < op → op ≤ 7 → l ≡ sat ss left → k ≡ sat ss right → b ≡ pick (eqb op 5) 1 k
-        → r ≡ pairs (applied op) l b → r ≡ node_set m ys ss i
-    unfolding node_set not_set
-    node_inner {l} {k} {b} {r} lo hi ll lk lb e = ⊎_elim five (λ lt. ⊎_elim six seven (eq-or-lt_of_le lt)) (eq-or-lt_of_le lo)
+    pub node_inner : {l k r : ℕ} → 4 < op → op ≤ 7 → l ≡ sat ss left → k ≡ sat ss right → r ≡ combined op l k → r ≡ node_set m ys ss i
+    unfolding node_set
+    node_inner {l} {k} {r} lo hi ll lk e = ⊎_elim five (λ lt. ⊎_elim six seven (eq-or-lt_of_le lt)) (eq-or-lt_of_le lo)
       where
         five : 5 ≡ op → r ≡ node_set m ys ss i
-        five q = rw (← eo, ← q, ← el, ← ll) (rw (lb, ← q) at e)
+        five q = rw (← eo, ← q, ← el, ← ll) (rw (← q) at e)
 
         six : 6 ≡ op → r ≡ node_set m ys ss i
-        six q = rw (← eo, ← q, ← el, ← er, ← ll, ← lk) (rw (lb, ← q) at e)
+        six q = rw (← eo, ← q, ← el, ← er, ← ll, ← lk) (rw (← q) at e)
 
         seven : 6 < op → r ≡ node_set m ys ss i
-        seven lt = let q : op ≡ 7 = omega arith in rw (← eo, q, ← el, ← er, ← ll, ← lk) (rw (lb, q) at e)
+        seven lt = let q : op ≡ 7 = omega arith in rw (← eo, q, ← el, ← er, ← ll, ← lk) (rw q at e)
 
     pub node_equal : {r : ℕ} → 7 < op → r ≡ equality_of m ys op left right → r ≡ node_set m ys ss i
     unfolding node_set
@@ -160,13 +167,6 @@ module _ (m : List ℕ) (i : ℕ) {op : ℕ} (eo : op ≡ op_of m i) where
     unfolding blank_at
     blank_open f = rw (← eo, le-ltb op 8 h, ← el, ← er, ← eq, f)
 
-same_or_not : (j i : ℕ) → (j ≡ i) ⊎ (j ≡ i → ⊥)
-same_or_not j i = by (eqb j i) refl
-  where
-    by : (b : Bool) → eqb j i ≡ b → (j ≡ i) ⊎ (j ≡ i → ⊥)
-    by true e = inl (eqb-true j i e)
-    by false e = inr (eqb-false j i e)
-
 module _ (m ys : List ℕ) {w : List ℕ} (k : Known m ys w) where
   pub known_read : (i : ℕ) {x : ℕ} → i < nodes m → x ≡ get_or w i 0 → (x ≡ 0 → ⊥) → kept_set x ≡ sat (node_sets m ys) i
   known_read i {x} lt e z = ⊎_elim before (λ o. ap kept_set (e ∙ o.1) ∙ kept_low (sat (node_sets m ys) i) o.2) (k.each i lt)
@@ -184,41 +184,6 @@ module _ (m ys : List ℕ) {w : List ℕ} (k : Known m ys w) where
       by : (b : Bool) → ltb i (nodes m) ≡ b → kept_set x ≡ sat (node_sets m ys) i
       by true q = known_read i (ltb-true i (nodes m) q) e z
       by false q = absurd (z (e ∙ get_or-eq_default w 0 (rw k.size (ltb-false i (nodes m) q))))
-
-  -- a node that is not worked out is not the same on every path
-  pub unknown : (i : ℕ) {x : ℕ} → i < nodes m → x ≡ get_or w i 0 → x ≡ 0 → blank_at m i ≡ 0
-  unknown i lt e z = ⊎_elim (λ o. sym o ∙ sym e ∙ z) (λ o. o.0) (k.each i lt)
-
-  pub known_put : (i v : ℕ) {d : List ℕ} → blank_at m i ≡ 0 → v ≡ sat (node_sets m ys) i → v < 8 → d ≡ set w i (8 + v) → Known m ys d
-  known_put i v {d} z ev small ed =
-      record {
-        size = rw (ed, length-set) k.size;
-        each = λ j lt. by j lt (same_or_not j i);
-      }
-    where
-      by : (j : ℕ) → j < nodes m → (j ≡ i) ⊎ (j ≡ i → ⊥)
-          → (get_or d j 0 ≡ blank_at m j) ⊎ ((blank_at m j ≡ 0) × (get_or d j 0 ≡ 8 + sat (node_sets m ys) j) × (sat (node_sets m ys) j < 8))
-      by j lt c =
-          ⊎_elim
-          (λ e. inr (rw e (
-            z,
-            rw (ed, get_or-set_same w i (8 + v) 0 (rw k.size (rw e at lt))) (ap (λ x. 8 + x) ev),
-            rw (← ev) small,
-          )))
-          (λ e. rw (ed, get_or-set_other w i j (8 + v) 0 e) (k.each j lt))
-          c
-
-  -- one read, and one worked out and kept
-  module _ {n i : ℕ} (lt : i < n) (le : n ≤ nodes m) where
-    pub read_known : {x : ℕ} → x ≡ get_or w i 0 → (x ≡ 0 → ⊥) → kept_set x ≡ among m ys n i
-    read_known e z = known_any i e z ∙ sym (among-whole m ys n i lt le)
-
-    pub settled : {v : ℕ} → v ≡ node_set m ys (build (node_set m ys) i) i → v ≡ among m ys n i
-    settled e = e ∙ sym (among_is m ys n i lt)
-
-    pub kept : {v : ℕ} {d : List ℕ} → blank_at m i ≡ 0 → v ≡ node_set m ys (build (node_set m ys) i) i → v < 8 → d ≡ set w i (8 + v)
-        → (v ≡ among m ys n i) × Known m ys d
-    kept {v} z e small ed = (settled e, known_put i v z (settled e ∙ among-whole m ys n i lt le) small ed)
 
   -- the room once the leaf is done with
   pub known_settled : {d : List ℕ} → length d ≡ length w → ((i : ℕ) → i < length w → get_or d i 0 ≡ lasting (get_or w i 0)) → d ≡ blank_of m
@@ -249,26 +214,17 @@ known_blank m ys e = record {
   each = λ i lt. inl (rw e (tabulate_at (blank_at m) 0 (nodes m) i lt));
 }
 
--- taken back so far: before the first turn, and one byte more
+-- taken back so far
 module _ (w₀ : List ℕ) where
   abbrev pub Settled : List ℕ → ℕ → Type 0
   Settled w k = ((j : ℕ) → j < k → get_or w j 0 ≡ lasting (get_or w₀ j 0)) × ((j : ℕ) → k ≤ j → get_or w j 0 ≡ get_or w₀ j 0)
 
-  pub settled_none : Settled w₀ 0
-  settled_none = (below_none _, λ j l. refl)
-
-  pub settled_more : (w : List ℕ) (k v : ℕ) → k < length w → Settled w k → v ≡ lasting (get_or w k 0) → Settled (set w k v) (k + 1)
-  settled_more w k v l s ev = (
-    below_more (λ j. get_or (set w k v) j 0 ≡ lasting (get_or w₀ j 0)) k
-        (λ j n. get_or-set_other w k j v 0 (λ u. absurd (let z : j ≡ k = u in omega arith)) ∙ s.0 j n)
-        (get_or-set_same w k v 0 l ∙ ev ∙ ap lasting (s.1 k (omega arith))),
-    λ j n. get_or-set_other w k j v 0 (λ u. absurd (let z : j ≡ k = u in omega arith)) ∙ s.1 j (omega arith),
-  )
+-- where every node is worked out, the set of one that is no leaf is told
+pub told : (o : Option Set) (none : Set) {r : Set} {x : ℕ} {untold : Type 0} → r ≡ unwrap_or o none → IfSome o (λ s. s.bits ≡ x) → IfNone o untold → (untold → ⊥) → r.bits ≡ x
+told None none e some un out = absurd (out un)
+told (Some s) none e some un out = rw e some
 
 -- IN ORDER: node i, where every node before it but leaves is worked out
-pub new_set : (m ys : List ℕ) (i : ℕ) {v : ℕ} → v ≡ node_set m ys (build (node_set m ys) i) i → v ≡ among m ys (i + 1) i
-new_set m ys i e = e ∙ sym (among_is m ys (i + 1) i (omega arith))
-
 module _ (m ys w : List ℕ) {i : ℕ} (out : WorkedOut m w i) where
   -- an operand that is not worked out is a leaf
   pub leaf_left : (k : ℕ) {x r : ℕ} → k < i → x ≡ get_or w k 0 → x ≡ 0 → r ≡ leaf_set m ys k → r ≡ among m ys i k
@@ -277,11 +233,3 @@ module _ (m ys w : List ℕ) {i : ℕ} (out : WorkedOut m w i) where
       by : (q : Bool) → leb (op_of m k) 4 ≡ q → r ≡ among m ys i k
       by true e = node-leaf m ys (build (node_set m ys) k) k refl (leb-true (op_of m k) 4 e) er ∙ sym (among_is m ys i k lt)
       by false e = absurd (out k lt (leb-false (op_of m k) 4 e) (sym ex ∙ z))
-
-  pub out_more : (d : List ℕ) → ((j : ℕ) → j < i → get_or d j 0 ≡ get_or w j 0) → (4 < op_of m i → get_or d i 0 ≡ 0 → ⊥) → WorkedOut m d (i + 1)
-  out_more d same at = below_more (λ j. 4 < op_of m j → get_or d j 0 ≡ 0 → ⊥) i (λ j l op z. out j l op (sym (same j l) ∙ z)) at
-
-  pub out_put : (d : List ℕ) (v : ℕ) → i < length w → d ≡ set w i (8 + v) → WorkedOut m d (i + 1)
-  out_put d v l ed =
-      out_more d (λ j h. rw ed (get_or-set_other w i j (8 + v) 0 (λ u. absurd (let q : j ≡ i = u in omega arith))))
-      (λ o q. let z : 8 + v ≡ 0 = sym (get_or-set_same w i (8 + v) 0 l) ∙ (rw ed at q) in absurd (omega (arith, z)))

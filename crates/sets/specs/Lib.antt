@@ -1,1 +1,3 @@
+pub mod Paths
+pub mod Single
 pub mod Work

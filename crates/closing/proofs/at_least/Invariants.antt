@@ -1,13 +1,14 @@
 -- `closing::at_least` meets its contract: it counts the members so far.
-use Rattle.closing.specs.Broken.{bound_of}
+use Rattle.closing.specs.Picks.{Bounds}
 use Rattle.meaning.specs.Base.{count_below}
-use Prim.Native.Nat.{◌≤◌, ◌-◌}
+use Rattle.meaning.specs.Book.{member_of}
+use Rattle.meaning.specs.Sets.{sat}
+use Prim.Native.Nat.{ℕ, ◌≤◌}
 use lib.Dec.{leb}
 use mathlib.Core.Path.{◌≡◌}
 use Rattle.closing.proofs.at_least.Given as goal
 
 abbrev pub invariant-loop-j : goal.invariant-loop-j
-invariant-loop-j l = (l.j ≤ l.n) × (l.found ≡ count_below (λ i. leb l.k (bound_of l.m l.ys l.c l.largest i)) l.j) × (l.found ≤ l.j)
-
-abbrev pub decreases-loop-j : goal.decreases-loop-j
-decreases-loop-j l = l.n - l.j
+invariant-loop-j g l =
+    ((h : ℕ → ℕ) → Bounds (goal.F-post g l.bound) h → l.found ≡ count_below (λ j. leb l.k (h (sat l.ys (member_of l.m l.c j)))) l.j)
+    × (l.found ≤ l.j)

@@ -29,15 +29,15 @@ pub split-overflow_add-reached : goal.split-overflow_add-reached
 split-overflow_add-reached t c = omega (arith, (in_finding c.args.m.now.now c.args.f.now.now c.args.ys.now c.args.at c.requires.1), c.requires.2)
 
 pub split-loop-v-init : goal.split-loop-v-init
-split-loop-v-init t c = (omega arith, refl, refl, turns_none c.args.m.now.now c.args.f.now.now c.args.ys.now (c.args.left - 1) c.half-s.result c.at-all.result (c.args.at + 3), λ z. refl, refl)
+split-loop-v-init t c = (omega arith, refl, refl, turns_none c.args.m.now.now c.args.f.now.now c.args.ys.now (c.args.left - 1) c.half-s.result c.at-all.result.bits (c.args.at + 3), λ z. refl, refl)
 
 pub split-branch-reached-requires : goal.split-branch-reached-requires
 split-branch-reached-requires t c = (omega arith, (c.requires.2, c.loop-v.invariant.5 ∙ c.requires.3))
 
 pub split-loop-v-preserved : goal.split-loop-v-preserved
 split-loop-v-preserved t c = elim c.if-has.branch [
-  | split-then-has w ↦ (omega arith, same_size c.loop-v.ys c.half-s.result w.only.result w.put.ensures (w.ys-is ∙ w.branch-reached.ensures.1) c.loop-v.invariant.1, ap length (w.w-is ∙ w.branch-reached.ensures.2 ∙ c.loop-v.invariant.5), rw w.reached-is (turn-walked c.args.m.now.now c.args.f.now.now c.args.ys.now (c.args.left - 1) c.half-s.result c.at-all.result (Ok (c.args.at + 3)) c.loop-v.v c.loop-v.reached w.branch-reached.result c.loop-v.invariant.3 c.has.ensures c.loop-v.ys w.if-has.true w.only.ensures c.loop-v.invariant.4 w.put.ensures w.branch-reached.ensures.0), still_same c.args.ys.now c.loop-v.ys c.half-s.result w.only.result c.loop-v.invariant.4 w.put.ensures (w.ys-is ∙ w.branch-reached.ensures.1), w.w-is ∙ w.branch-reached.ensures.2 ∙ c.loop-v.invariant.5)
-  | split-else-has w ↦ (omega arith, ap length w.ys-is ∙ c.loop-v.invariant.1, ap length w.w-is ∙ c.loop-v.invariant.2, turn_skipped c.args.m.now.now c.args.f.now.now c.args.ys.now (c.args.left - 1) c.half-s.result c.at-all.result (Ok (c.args.at + 3)) c.loop-v.v c.loop-v.reached c.if-has.reached c.loop-v.invariant.3 c.has.ensures w.if-has.false w.reached-is, λ z. rw w.ys-is (c.loop-v.invariant.4 z), w.w-is ∙ c.loop-v.invariant.5)
+  | split-then-has w ↦ (omega arith, same_size c.loop-v.ys c.half-s.result w.only.result.bits w.put.ensures (w.ys-is ∙ w.branch-reached.ensures.1) c.loop-v.invariant.1, ap length (w.w-is ∙ w.branch-reached.ensures.2 ∙ c.loop-v.invariant.5), rw w.reached-is (turn-walked c.args.m.now.now c.args.f.now.now c.args.ys.now (c.args.left - 1) c.half-s.result c.at-all.result.bits (Ok (c.args.at + 3)) c.loop-v.v c.loop-v.reached w.branch-reached.result c.loop-v.invariant.3 c.has.ensures c.loop-v.ys w.if-has.true w.only.ensures c.loop-v.invariant.4 w.put.ensures w.branch-reached.ensures.0), still_same c.args.ys.now c.loop-v.ys c.half-s.result w.only.result.bits c.loop-v.invariant.4 w.put.ensures (w.ys-is ∙ w.branch-reached.ensures.1), w.w-is ∙ w.branch-reached.ensures.2 ∙ c.loop-v.invariant.5)
+  | split-else-has w ↦ (omega arith, ap length w.ys-is ∙ c.loop-v.invariant.1, ap length w.w-is ∙ c.loop-v.invariant.2, turn_skipped c.args.m.now.now c.args.f.now.now c.args.ys.now (c.args.left - 1) c.half-s.result c.at-all.result.bits (Ok (c.args.at + 3)) c.loop-v.v c.loop-v.reached c.if-has.reached c.loop-v.invariant.3 c.has.ensures w.if-has.false w.reached-is, λ z. rw w.ys-is (c.loop-v.invariant.4 z), w.w-is ∙ c.loop-v.invariant.5)
 ]
 
 pub split-returns : goal.split-returns

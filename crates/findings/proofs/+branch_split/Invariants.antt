@@ -11,4 +11,4 @@ abbrev pub decreases-split : goal.decreases-split
 decreases-split l = l.left + l.left
 
 abbrev pub invariant-split-loop-v : goal.invariant-split-loop-v
-invariant-split-loop-v l = (l.v ≤ 3) × (length l.ys ≡ length l.initial.ys) × (length l.w ≡ length l.initial.w) × (l.reached ≡ branches l.m.now l.f.now (l.left - 1) l.initial.ys l.s l.all (Ok (l.at + 3)) l.v) × ((z : ℕ) → set l.ys l.s z ≡ set l.initial.ys l.s z) × (l.w ≡ l.initial.w)
+invariant-split-loop-v l = (l.v ≤ 3) × (length l.ys ≡ length l.initial.ys) × (length l.w ≡ length l.initial.w) × (l.reached ≡ branches l.m.now l.f.now (l.left - 1) l.initial.ys l.s l.all.bits (Ok (l.at + 3)) l.v) × ((z : ℕ) → set l.ys l.s z ≡ set l.initial.ys l.s z) × (l.w ≡ l.initial.w)

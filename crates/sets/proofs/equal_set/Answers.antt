@@ -3,11 +3,5 @@ use native.Mathlib.Omega.{arith}
 use Rattle.sets.proofs.Equal.{set_free}
 use Rattle.sets.proofs.equal_set.Goals as goal
 
-pub three_set-requires : goal.three_set-requires
-three_set-requires c = (c.requires.1, (rw c.in-Three.is at c.side_of.ensures).0, (rw c.in-Three.is at c.side_of.ensures).1, (rw c.in-Three.is at c.side_of.ensures).2)
-
-pub other_set-requires : goal.other_set-requires
-other_set-requires c = (c.requires.0, c.requires.1, (rw c.in-Plain.is at c.side_of.ensures).0, (rw c.in-Plain.is at c.side_of.ensures).1, (rw c.in-Plain.is at c.side_of.ensures).2)
-
 pub returns-in-Free : goal.returns-in-Free
 returns-in-Free c = (set_free c.args.m.now c.args.ys.now c.args.i c.args.j (rw c.in-Free.is at c.side_of.ensures), omega arith)

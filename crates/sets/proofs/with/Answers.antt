@@ -1,8 +1,0 @@
--- `sets::with` meets its contract: each value is in it that was, or is the one added.
-use Rattle.meaning.specs.Sets.{with_one}
-use mathlib.Core.Path.{◌∙◌}
-use Rattle.sets.proofs.with.Goals as goal
-
-pub returns : goal.returns
-unfolding with_one
-returns c = (c.set_of.ensures.0 ∙ rw (c.has.ensures, c.has-2.ensures, c.has-3.ensures), c.set_of.ensures.1)
