@@ -53,7 +53,7 @@ pub fn symbol_fits(m: &[u8], s: usize) -> bool
         & (fields::depend_of(m, s) < nodes)
 }
 
-// A leaf's fields, by its op.
+// A leaf's fields, by its op. By number, as the definitions and the tables of docs/FORMAT.md have ops: an enum of them would be one more match.
 fn leaf_fits(m: &[u8], op: u8, left: usize, right: usize) -> bool
     requires { (left < 65536) × (right < 65536) }
     ensures { result ≡ leaf_fits m.now op left right }
@@ -182,7 +182,7 @@ pub fn member_fits(m: &[u8], c: usize, i: usize) -> bool
     (s < fields::symbols(m)) & (fields::type_of(m, s) <= fields::choice_kind(m, c))
 }
 
-// Record i of section k, which is another than the symbols'.
+// Record i of section k, which is another than the symbols'. By number: its caller counts the sections, and so do the definitions.
 pub fn record_ok(m: &[u8], k: usize, i: usize) -> bool
     requires { (k ≡ 1 → ⊥) × (i < 2 ^ 32) }
     ensures { result ≡ record_ok m.now k i }
