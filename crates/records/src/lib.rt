@@ -81,6 +81,7 @@ fn node_fits(m: &[u8], i: usize, op: u8, left: usize, right: usize) -> bool
 }
 
 // A node.
+#[tactic(auto, unfolding(meaning::specs::Book::node_ok))]
 fn node_ok(m: &[u8], i: usize) -> bool
     requires { i < 2 ^ 32 }
     ensures { result ≡ node_ok m.now i }
@@ -96,6 +97,7 @@ fn node_ok(m: &[u8], i: usize) -> bool
 }
 
 // A default: a string's, int's or hex's is a leaf.
+#[tactic(auto, unfolding(meaning::specs::Book::default_ok))]
 fn default_ok(m: &[u8], d: usize) -> bool
     requires { d < 2 ^ 32 }
     ensures { result ≡ default_ok m.now d }
@@ -110,6 +112,7 @@ fn default_ok(m: &[u8], d: usize) -> bool
 }
 
 // A select: it joins boolean or tristate symbols.
+#[tactic(auto, unfolding(meaning::specs::Book::select_ok))]
 fn select_ok(m: &[u8], k: usize) -> bool
     requires { k < 2 ^ 32 }
     ensures { result ≡ select_ok m.now k }
@@ -125,6 +128,7 @@ fn select_ok(m: &[u8], k: usize) -> bool
 }
 
 // A range's bound of type y: a constant or a symbol of it.
+#[tactic(auto, unfolding(meaning::specs::Book::bound_ok))]
 fn bound_ok(m: &[u8], y: u8, i: usize) -> bool
     requires { i < 2 ^ 32 }
     ensures { result ≡ bound_ok m.now y i }
@@ -135,6 +139,7 @@ fn bound_ok(m: &[u8], y: u8, i: usize) -> bool
 }
 
 // A range: it is on an int or a hex.
+#[tactic(auto, unfolding(meaning::specs::Book::range_ok))]
 fn range_ok(m: &[u8], r: usize) -> bool
     requires { r < 2 ^ 32 }
     ensures { result ≡ range_ok m.now r }
@@ -160,6 +165,7 @@ pub fn member_due(m: &[u8], c: usize) -> usize
 }
 
 // A choice: it takes its members in turn.
+#[tactic(auto, unfolding(meaning::specs::Book::choice_ok))]
 fn choice_ok(m: &[u8], c: usize) -> bool
     requires { c < 2 ^ 32 }
     ensures { result ≡ choice_ok m.now c }
