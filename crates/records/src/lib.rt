@@ -54,6 +54,7 @@ pub fn symbol_fits(m: &[u8], s: usize) -> bool
 }
 
 // A leaf's fields, by its op. By number, as the definitions and the tables of docs/FORMAT.md have ops: an enum of them would be one more match.
+#[tactic(auto, unfolding(meaning::specs::Book::leaf_fits))]
 fn leaf_fits(m: &[u8], op: u8, left: usize, right: usize) -> bool
     requires { (left < 65536) × (right < 65536) }
     ensures { result ≡ leaf_fits m.now op left right }
@@ -67,6 +68,7 @@ fn leaf_fits(m: &[u8], op: u8, left: usize, right: usize) -> bool
 }
 
 // The fields of node i, by its op: a leaf; not; and, or; equal, not equal. Any other op is refused.
+#[tactic(auto, unfolding(meaning::specs::Book::node_fits))]
 fn node_fits(m: &[u8], i: usize, op: u8, left: usize, right: usize) -> bool
     requires { (left < 65536) × (right < 65536) }
     ensures { result ≡ node_fits m.now i op left right }
@@ -189,6 +191,7 @@ pub fn member_fits(m: &[u8], c: usize, i: usize) -> bool
 }
 
 // Record i of section k, which is another than the symbols'. By number: its caller counts the sections, and so do the definitions.
+#[tactic(auto, unfolding(meaning::specs::Book::record_ok))]
 pub fn record_ok(m: &[u8], k: usize, i: usize) -> bool
     requires { (k ≡ 1 → ⊥) × (i < 2 ^ 32) }
     ensures { result ≡ record_ok m.now k i }
