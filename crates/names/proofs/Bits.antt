@@ -2,16 +2,16 @@
 use mathlib.Core.Path.{◌≡◌, refl, ◌∙◌, ap}
 use mathlib.Core.Bool.{Bool, true, false}
 use mathlib.Core.List.{List}
-use Prim.Native.Nat.{ℕ, zero, suc, ◌+◌, ◌*◌, ◌/◌, ◌%◌, ◌^◌, min, max, ◌<◌}
+use Prim.Native.Nat.{ℕ, zero, suc, ◌+◌, ◌*◌, ◌/◌, ◌%◌, ◌^◌, max, ◌<◌}
 use native.Mathlib.Omega.{arith}
 use lib.Dec.{eqb}
 use lib.ListN.{length, get_or, set}
 use lib.Seq.{get_or-set_same, get_or-set_other}
-use lib.Bits.{bit_and, bit_or, and_step, or_step, or_shr}
+use lib.Bits.{bit_or, or_step, or_shr}
 use borrow.Author.Tests.{eqb-true, eqb-false}
 use Rattle.names.specs.Keys.{bit_at, Marked, Adds}
 
--- BITS of an or, and of an and
+-- BITS of an or
 low : (y z : ℕ) → z < 2 → (y * 2 + z) % 2 ≡ z
 low y z l = omega arith
 
@@ -19,10 +19,6 @@ bit_or_lem : (a b p : ℕ) → bit_at (bit_or a b) p ≡ max (bit_at a p) (bit_a
 bit_or_lem a b p =
     ap (λ x. x % 2) (or_shr a b p) ∙ ap (λ x. x % 2) (or_step (a / 2 ^ p) (b / 2 ^ p))
     ∙ low (bit_or (a / 2 ^ p / 2) (b / 2 ^ p / 2)) (max (bit_at a p) (bit_at b p)) (omega arith)
-
-pub both_odd : (a b : ℕ) → a % 2 ≡ 1 → b % 2 ≡ 1 → bit_and a b % 2 ≡ 1
-both_odd a b ea eb =
-    ap (λ x. x % 2) (and_step a b) ∙ low (bit_and (a / 2) (b / 2)) (min (a % 2) (b % 2)) (omega arith) ∙ omega (arith, ea, eb)
 
 -- the one bit of a power of two
 one_bit : (p : ℕ) → p < 8 → bit_at (1 * 2 ^ p % 256) p ≡ 1

@@ -205,7 +205,7 @@ impl Rooms {
     }
 }
 
-// The first `count` names of a block, all different: each is linked to the one before it of its link, and has both its marks.
+// The first `count` names of a block, all different, as they stand in the rooms: each is linked to the one before it of its link, and has both its marks.
 #[derive(Clone, Copy)]
 struct Links<'a> {
     block: Block<'a>,
@@ -269,7 +269,8 @@ impl<'a> Links<'a> {
         marks.has(part::<FIRST_MARK, MARKS>(key)) & marks.has(part::<SECOND_MARK, MARKS>(key))
     }
 
-    // Which linked name is `name`, whose key this is, if any is; Busy if more had to be compared than a limited try may.
+    // Which linked name is `name`, whose key this is, if any is; Busy if more had to be compared than a limited try may. Inlined, since a frame
+    // of its own is over the bar of stack.
     #[inline(always)]
     fn find(&self, name: &[u8], key: usize, limited: bool) -> Result<Option<usize>, Busy>
         requires { key ≡ key_of self.now.factor name.now }
@@ -305,7 +306,7 @@ impl<'a> Links<'a> {
             let x = key(name, self.factor);
             if self.may_have(x) {
                 looked_up += 1;
-                if limited && e / 4 + 64 < looked_up {
+                if limited && base < 4 * looked_up.saturating_sub(64) {
                     return Err(Busy);
                 }
                 if let Some(j) = self.find(name, x, false)? {
@@ -328,7 +329,7 @@ fn fresh(m: &[u8], base: usize, n: usize, factor: usize, limited: bool) -> Resul
     links.new_ones(limited)
 }
 
-// How many of the n names from base on are new, up to the first that is not.
+// How many of the n names from base on are new, up to the first that is not. The last try, which is not limited, has the answer.
 fn first_old(m: &[u8], base: usize, n: usize) -> usize
     requires { (base < 65536) × (n ≤ 224) }
     ensures { (result ≤ n) × ((s : ℕ) → base ≤ s → s < base + result → new_name m.now s ≡ true) × (result < n → new_name m.now (base + result) ≡ false) }

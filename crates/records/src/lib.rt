@@ -53,7 +53,8 @@ pub fn symbol_fits(m: &[u8], s: usize) -> bool
         & (fields::depend_of(m, s) < nodes)
 }
 
-// A leaf's fields, by its op.
+// A leaf's fields, by its op. By number, as the definitions and the tables of docs/FORMAT.md have ops: an enum of them would be one more match.
+#[tactic(auto, unfolding(meaning::specs::Book::leaf_fits))]
 fn leaf_fits(m: &[u8], op: u8, left: usize, right: usize) -> bool
     requires { (left < 65536) × (right < 65536) }
     ensures { result ≡ leaf_fits m.now op left right }
@@ -67,6 +68,7 @@ fn leaf_fits(m: &[u8], op: u8, left: usize, right: usize) -> bool
 }
 
 // The fields of node i, by its op: a leaf; not; and, or; equal, not equal. Any other op is refused.
+#[tactic(auto, unfolding(meaning::specs::Book::node_fits))]
 fn node_fits(m: &[u8], i: usize, op: u8, left: usize, right: usize) -> bool
     requires { (left < 65536) × (right < 65536) }
     ensures { result ≡ node_fits m.now i op left right }
@@ -81,6 +83,7 @@ fn node_fits(m: &[u8], i: usize, op: u8, left: usize, right: usize) -> bool
 }
 
 // A node.
+#[tactic(auto, unfolding(meaning::specs::Book::node_ok))]
 fn node_ok(m: &[u8], i: usize) -> bool
     requires { i < 2 ^ 32 }
     ensures { result ≡ node_ok m.now i }
@@ -96,6 +99,7 @@ fn node_ok(m: &[u8], i: usize) -> bool
 }
 
 // A default: a string's, int's or hex's is a leaf.
+#[tactic(auto, unfolding(meaning::specs::Book::default_ok))]
 fn default_ok(m: &[u8], d: usize) -> bool
     requires { d < 2 ^ 32 }
     ensures { result ≡ default_ok m.now d }
@@ -110,6 +114,7 @@ fn default_ok(m: &[u8], d: usize) -> bool
 }
 
 // A select: it joins boolean or tristate symbols.
+#[tactic(auto, unfolding(meaning::specs::Book::select_ok))]
 fn select_ok(m: &[u8], k: usize) -> bool
     requires { k < 2 ^ 32 }
     ensures { result ≡ select_ok m.now k }
@@ -125,6 +130,7 @@ fn select_ok(m: &[u8], k: usize) -> bool
 }
 
 // A range's bound of type y: a constant or a symbol of it.
+#[tactic(auto, unfolding(meaning::specs::Book::bound_ok))]
 fn bound_ok(m: &[u8], y: u8, i: usize) -> bool
     requires { i < 2 ^ 32 }
     ensures { result ≡ bound_ok m.now y i }
@@ -135,6 +141,7 @@ fn bound_ok(m: &[u8], y: u8, i: usize) -> bool
 }
 
 // A range: it is on an int or a hex.
+#[tactic(auto, unfolding(meaning::specs::Book::range_ok))]
 fn range_ok(m: &[u8], r: usize) -> bool
     requires { r < 2 ^ 32 }
     ensures { result ≡ range_ok m.now r }
@@ -160,6 +167,7 @@ pub fn member_due(m: &[u8], c: usize) -> usize
 }
 
 // A choice: it takes its members in turn.
+#[tactic(auto, unfolding(meaning::specs::Book::choice_ok))]
 fn choice_ok(m: &[u8], c: usize) -> bool
     requires { c < 2 ^ 32 }
     ensures { result ≡ choice_ok m.now c }
@@ -182,7 +190,8 @@ pub fn member_fits(m: &[u8], c: usize, i: usize) -> bool
     (s < fields::symbols(m)) & (fields::type_of(m, s) <= fields::choice_kind(m, c))
 }
 
-// Record i of section k, which is another than the symbols'.
+// Record i of section k, which is another than the symbols'. By number: its caller counts the sections, and so do the definitions.
+#[tactic(auto, unfolding(meaning::specs::Book::record_ok))]
 pub fn record_ok(m: &[u8], k: usize, i: usize) -> bool
     requires { (k ≡ 1 → ⊥) × (i < 2 ^ 32) }
     ensures { result ≡ record_ok m.now k i }
