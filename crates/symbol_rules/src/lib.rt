@@ -110,7 +110,6 @@ fn within(low: Leaf, high: Leaf, v: Leaf) -> bool
 }
 
 // 14 at s, if range r is on it and broken.
-#[tactic(auto, unfolding(meaning::specs::Rules::test14, meaning::specs::Table::content_of, meaning::specs::Base::when))]
 fn range_at(m: &[u8], t: &[u8], vs: &[u8], s: usize, r: usize) -> Outcome
     requires { (s < 65536) × (r < 65536) }
     ensures { result ≡ test14 m.now t.now vs.now s r }
