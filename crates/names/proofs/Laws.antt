@@ -1,4 +1,4 @@
--- Names that are alike, links from each name of a block to the one before it of its link, what a walk along them shows, and the rooms of a block. Assumes nothing.
+-- The bytes of a name by eights, names that are alike, links from each name of a block to the one before it of its link, what a walk along them shows, and the rooms of a block. Assumes nothing.
 use mathlib.Core.Path.{◌≡◌, refl, sym, ◌∙◌, ap}
 use mathlib.Core.Bool.{Bool, true, false, ◌&&◌, not, true≢false}
 use mathlib.Core.List.{List, [], ◌∷◌, ◌++◌}
@@ -8,7 +8,7 @@ use native.Mathlib.Nat.{eq-or-lt_of_le, le_of_suc-le-suc}
 use native.Mathlib.Omega.{arith}
 use native.Mathlib.Numerals.{add-one}
 use lib.Dec.{eqb, leb, ltb}
-use lib.ListN.{length, drop, get_or, get_or-append, length-append, length-drop, set, replicate, get_or-replicate, get_or-eq_default}
+use lib.ListN.{length, drop, get_or, get_or-append, length-append, length-drop, set, replicate, get_or-replicate}
 use lib.Seq.{drop-append_seam, get_or-drop, get_or-set_same, get_or-set_other}
 use borrow.Author.Tests.{eq-eqb, eqb-true, eqb-false, ltb-true, ltb-false}
 use borrow.Author.Count.{below_more}
@@ -20,10 +20,6 @@ use Rattle.meaning.specs.Book.{nodes, type_of, prompt_of, depend_of, spelled_nam
 use Rattle.meaning.proofs.Below.{all_every, all_stop}
 use Rattle.meaning.proofs.Tests.{same_text_lem}
 use Rattle.names.specs.Keys.{key_of, name_key, link_of, first_mark, second_mark, Marked, last_with, link_at, Linked, Headed, AllMarked, Different, NotAmong}
-
--- an empty text reads 0 everywhere
-pub none_at : (s : List ℕ) (i : ℕ) → length s ≡ 0 → get_or s i 0 ≡ 0
-none_at s i e = get_or-eq_default s 0 (omega arith)
 
 -- EIGHTS: the next eight bytes of a text, and what is left of it behind them
 pub next_eight : (name eight rest : List ℕ) (k : ℕ) → drop (8 * k) name ≡ eight ++ rest → length eight ≡ 8

@@ -42,6 +42,7 @@ const MARKS: usize = 2048;
 struct Busy;
 
 // Four bytes as a number.
+#[tactic(auto, unfolding(meaning::specs::Base::word, meaning::specs::Base::half))]
 fn four(s: &[u8], i: usize) -> usize
     requires { i + 4 ≤ length s.now }
     ensures { (result ≡ word s.now i) × (result < 4294967296) }
@@ -58,6 +59,7 @@ fn mixed(sum: usize, factor: usize, low: usize, high: usize) -> usize
 }
 
 // Up to three bytes as a number.
+#[tactic(auto, unfolding(crate::specs::Keys::few))]
 fn few(s: &[u8]) -> usize
     ensures { (result ≡ few_of s.now) × (result < 16777216) }
 {

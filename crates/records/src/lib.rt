@@ -160,10 +160,10 @@ pub fn member_due(m: &[u8], c: usize) -> usize
     requires { c < 2 ^ 32 }
     ensures { (result ≡ member_due m.now c) × (result < 131072) }
 {
-    if c == 0 {
-        return 0;
+    match c.checked_sub(1) {
+        Some(former) => fields::first_member(m, former) + fields::member_count(m, former),
+        None => 0,
     }
-    fields::first_member(m, c - 1) + fields::member_count(m, c - 1)
 }
 
 // A choice: it takes its members in turn.
