@@ -44,7 +44,7 @@ impl Set {
         ensures { (result.bits ≡ set_of n m y) × (result.bits < 8) }
     {
         Set {
-            bits: bit(n, 1) + bit(m, 2) + bit(y, 4),
+            bits: u8::from(n) + 2 * u8::from(m) + 4 * u8::from(y),
         }
     }
 
@@ -91,9 +91,12 @@ impl Set {
         ensures { result ≡ least_of self.bits }
     {
         if self.has(0) {
-            return 0;
+            0
+        } else if self.has(1) {
+            1
+        } else {
+            2
         }
-        if self.has(1) { 1 } else { 2 }
     }
 
     // A set's largest value.
@@ -102,9 +105,12 @@ impl Set {
         ensures { result ≡ most_of self.bits }
     {
         if self.has(2) {
-            return 2;
+            2
+        } else if self.has(1) {
+            1
+        } else {
+            0
         }
-        if self.has(1) { 1 } else { 0 }
     }
 
     // A set with one value more.
@@ -171,13 +177,6 @@ impl Set {
     {
         self.pairs(other, Tri::or)
     }
-}
-
-// x where told, else nothing.
-fn bit(told: bool, x: u8) -> u8
-    ensures { (result ≡ pick told x 0) × (result ≤ x) }
-{
-    if told { x } else { 0 }
 }
 
 // The set of symbol i; {n} past the end.
