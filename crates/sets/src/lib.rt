@@ -44,7 +44,7 @@ impl Set {
         ensures { (result.bits ≡ set_of n m y) × (result.bits < 8) }
     {
         Set {
-            bits: u8::from(n) + 2 * u8::from(m) + 4 * u8::from(y),
+            bits: bit(n, 1) + bit(m, 2) + bit(y, 4),
         }
     }
 
@@ -177,6 +177,13 @@ impl Set {
     {
         self.pairs(other, Tri::or)
     }
+}
+
+// x where told, else nothing. A product with `u8::from(told)` costs an eighth more where defaults are on a leaf's place.
+fn bit(told: bool, x: u8) -> u8
+    ensures { (result ≡ pick told x 0) × (result ≤ x) }
+{
+    if told { x } else { 0 }
 }
 
 // The set of symbol i; {n} past the end.
