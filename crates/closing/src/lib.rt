@@ -65,6 +65,7 @@ fn at_least<F: Fn(Set) -> u8>(m: &[u8], ys: &[u8], c: usize, k: u8, bound: F) ->
     requires callable { F.IsAlwaysCallable bound }
     ensures { (g : ℕ → ℕ) → Bounds (F.post bound) g → result ≡ at_least (λ j. g (sat ys.now (member_of m.now c j))) (member_count m.now c) k }
 {
+    // A loop and no `filter`: what its closure asks of a member's number stays open, and its count says no value of a member.
     let n = fields::member_count(m, c);
     let mut found = 0;
     for j in 0..n {
