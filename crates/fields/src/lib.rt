@@ -134,7 +134,7 @@ pub fn name_length(m: &[u8], i: usize) -> u8
     requires { i < 2 ^ 32 }
     ensures { result ≡ name_length m.now i }
 {
-    byte_in(m, 1, 8, i, 1)
+    name_length_from(m, start(m, 1), i)
 }
 
 // Where a symbol's name stands in the texts.
@@ -142,7 +142,7 @@ pub fn name_offset(m: &[u8], i: usize) -> usize
     requires { i < 2 ^ 32 }
     ensures { (result ≡ name_offset m.now i) × (result < 65536) }
 {
-    half_in(m, 1, 8, i, 2)
+    name_offset_from(m, start(m, 1), i)
 }
 
 // How long a symbol's name is, where the symbols' start is at hand.
@@ -214,7 +214,7 @@ pub fn default_symbol(m: &[u8], i: usize) -> usize
     requires { i < 2 ^ 32 }
     ensures { (result ≡ default_symbol m.now i) × (result < 65536) }
 {
-    half_in(m, 3, 6, i, 0)
+    default_symbol_from(m, start(m, 3), i)
 }
 
 // The symbol that a default is on, where the defaults' start is at hand.
@@ -254,7 +254,7 @@ pub fn target_of(m: &[u8], i: usize) -> usize
     requires { i < 2 ^ 32 }
     ensures { (result ≡ target_of m.now i) × (result < 65536) }
 {
-    half_in(m, 4, 6, i, 2)
+    target_from(m, start(m, 4), i)
 }
 
 // A select's target, where the selects' start is at hand.
@@ -350,7 +350,7 @@ pub fn member_symbol(m: &[u8], i: usize) -> usize
     requires { i < 2 ^ 32 }
     ensures { (result ≡ member_symbol m.now i) × (result < 65536) }
 {
-    half_in(m, 7, 2, i, 0)
+    member_symbol_from(m, start(m, 7), i)
 }
 
 // The symbol of a member record, where the members' start is at hand.
@@ -398,7 +398,7 @@ pub fn spelled_name(m: &[u8], s: usize) -> &[u8]
     requires { s < 2 ^ 32 }
     ensures { result.now ≡ spelled_name m.now s }
 {
-    raw::part(m, name_start(m, s), raw::wide(name_length(m, s)))
+    name_from(m, start(m, 1), text_start(m), s)
 }
 
 // The same, where the symbols' start and the texts' are at hand.
