@@ -2,16 +2,16 @@
 use mathlib.Core.Path.{◌≡◌, refl, sym, ◌∙◌, ap}
 use mathlib.Core.Bool.{Bool, true, false}
 use mathlib.Core.List.{List, []}
-use Prim.Native.Nat.{ℕ, zero, suc, ◌+◌, ◌-◌, ◌≤◌, ◌<◌, min}
+use Prim.Native.Nat.{ℕ, zero, suc, ◌+◌, ◌-◌, ◌≤◌, ◌<◌}
 use native.Mathlib.Omega.{arith}
 use native.Mathlib.Numerals.{add-one}
 use lib.Dec.{eqb, ltb}
 use lib.ListN.{length, get_or, set, replicate, get_or-replicate}
 use lib.Seq.{get_or-set_same, get_or-set_other}
-use borrow.Author.Tests.{ne_eqb, eqb-true, eqb-false, ltb-true, ltb-false}
+use borrow.Author.Tests.{ne_eqb, eqb-true, eqb-false}
 use Rattle.tri.specs.Three.{or_of}
 use Rattle.meaning.specs.Base.{Outcome}
-use Rattle.std.specs.Prelude.{Ok, Err}
+use Rattle.std.specs.Prelude.{Ok, Err, Option, Some, None}
 use Rattle.meaning.specs.declared.Answer.{Answer}
 use Rattle.meaning.specs.Base.{Clean, Fault}
 use Rattle.meaning.specs.Base.{pick, fold, when, or_else, first_below}
@@ -20,7 +20,7 @@ use Rattle.meaning.specs.Table.{Content, a_text, content_of, value_of}
 use Rattle.meaning.specs.Values.{val, leaf_of, given, condition_value, lower_step, lower_from, lower_of, default_step, default_from, default_of, default_content, prompt_value}
 use Rattle.meaning.specs.Rules.{broken13_content, three_tests, three_fault, other_fault, test14, symbol_fault}
 use Rattle.meaning.proofs.First.{clean_all, all_clean, block_fault, first_fault, first_clean}
-use Rattle.symbol_rules.specs.Ranges.{KeptBelow, BrokenAt}
+use Rattle.symbol_rules.specs.Ranges.{KeptBelow, FirstOff}
 use Rattle.blocks.specs.Rows.{place_of, Rows, first_default, chosen, own_fault}
 
 -- WHERE A SYMBOL STANDS in a block
@@ -141,7 +141,7 @@ unfolding or_else
 then_then (Ok _) b c = refl
 then_then (Err f) b c = refl
 
-module _ (m t vs : List ℕ) (n off : ℕ) (kept : KeptBelow m t vs (ranges m) off) (broken : BrokenAt m t vs (ranges m) off) (small : n < 65536) where
+module _ (m t vs : List ℕ) (n off : ℕ) (kept : KeptBelow m t vs (ranges m) off) (small : n < 65536) where
   own_below : (k : ℕ) → k ≤ off → first_below (symbol_fault m t vs) k ≡ first_below (own_fault m t vs) k
   unfolding first_below symbol_fault
   own_below zero l = refl
@@ -151,28 +151,21 @@ module _ (m t vs : List ℕ) (n off : ℕ) (kept : KeptBelow m t vs (ranges m) o
   unfolding first_below symbol_fault
   up_to = rw (add-one off, own_below off (omega arith)) (then_then _ _ _)
 
-  -- a fault of 11 to 13, none at all, and one of 14
-  pub own-answers : {e : ℕ} {r : Outcome} {f : Answer} → e ≡ min n (off + 1) → r ≡ first_below (own_fault m t vs) e → r ≡ Err f
-      → r ≡ first_below (symbol_fault m t vs) n
-  own-answers {e} {r = r} ee er f = by (ltb off n) refl
+module _ (m t vs : List ℕ) (n off : ℕ) (first : FirstOff m t vs (ranges m) (Some off)) (small : n < 65536) where
+  -- a fault of 11 to 13, and what 14 says where they are kept
+  pub own-answers : {r : Outcome} {f : Answer} → off < n → r ≡ first_below (own_fault m t vs) (off + 1) → r ≡ Err f → r ≡ first_below (symbol_fault m t vs) n
+  own-answers l er f = block_fault (symbol_fault m t vs) n (off + 1) (first_fault _ er f ∙ sym (up_to m t vs n off first.1 small)) f (omega (arith, l))
+
+  pub range-answers : {r q : Outcome} → r ≡ first_below (own_fault m t vs) (off + 1) → r ≡ Clean → off < n → q ≡ first_below (test14 m t vs off) (ranges m)
+      → q ≡ first_below (symbol_fault m t vs) n
+  range-answers {q = q} er f l eq = by q eq
     where
-      by : (b : Bool) → ltb off n ≡ b → r ≡ first_below (symbol_fault m t vs) n
-      by true q =
-          let l = ltb-true off n q in
-          let z : e ≡ off + 1 = omega (arith, l) in
-          block_fault (symbol_fault m t vs) n (off + 1) (first_fault _ (rw z at er) f ∙ sym up_to) f (omega (arith, l))
-      by false q = let l = ltb-false off n q in let z : e ≡ n = omega (arith, l) in rw z at er ∙ sym (own_below n l)
-
-  pub all_keep : {e : ℕ} {r : Outcome} → e ≡ min n (off + 1) → r ≡ first_below (own_fault m t vs) e → r ≡ Clean → n ≤ off → Clean ≡ first_below (symbol_fault m t vs) n
-  all_keep {e} ee er f l = let z : e ≡ n = omega arith in sym f ∙ rw z at er ∙ sym (own_below n l)
-
-  pub range-answers : {e : ℕ} {r q : Outcome} → e ≡ min n (off + 1) → r ≡ first_below (own_fault m t vs) e → r ≡ Clean → off < n
-      → q ≡ first_below (test14 m t vs off) (ranges m) → q ≡ first_below (symbol_fault m t vs) n
-  range-answers {e} {q = q} ee er f l eq = by q eq
-    where
-      z : e ≡ off + 1
-      z = omega arith
-
       by : (q : Outcome) → q ≡ first_below (test14 m t vs off) (ranges m) → q ≡ first_below (symbol_fault m t vs) n
-      by (Ok _) h = absurd (broken (omega arith) (clean_all (test14 m t vs off) (ranges m) (sym h)))
-      by (Err x) h = block_fault (symbol_fault m t vs) n (off + 1) (first_clean (rw z at er) f h ∙ sym up_to) refl (omega arith)
+      by (Ok _) h = absurd (first.2 (omega arith) (clean_all (test14 m t vs off) (ranges m) (sym h)))
+      by (Err x) h = block_fault (symbol_fault m t vs) n (off + 1) (first_clean er f h ∙ sym (up_to m t vs n off first.1 small)) refl (omega arith)
+
+-- no symbol of the book breaks a range
+pub own_alone : (m t vs : List ℕ) (n : ℕ) (o : Option ℕ) → FirstOff m t vs (ranges m) o → n < 65536 → ((off : ℕ) → o ≡ Some off → n ≤ off)
+    → first_below (own_fault m t vs) n ≡ first_below (symbol_fault m t vs) n
+own_alone m t vs n None f small past = sym (own_below m t vs n 65536 f small n (omega arith))
+own_alone m t vs n (Some off) f small past = sym (own_below m t vs n off f.1 small n (past off refl))

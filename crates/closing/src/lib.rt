@@ -3,7 +3,7 @@
 // Total over any book and any sets; `closed_on` is what the walk calls, and whoever else has the sets of a path.
 #![tactic(auto)]
 
-ghost use Rattle.std.specs.Prelude.{◌≡◌, ◌<◌, ℕ, Bool};
+ghost use Rattle.std.specs.Prelude.{◌≡◌, ◌<◌, ℕ, Bool, leb};
 ghost use Rattle.meaning.specs.Book.{member_count, member_of};
 ghost use Rattle.meaning.specs.Rules.{at_least};
 ghost use Rattle.meaning.specs.Sets.{every, sat, node_sets};
@@ -12,6 +12,7 @@ ghost use Rattle.sets.specs.Work.{blank_of};
 ghost use Rattle.sets.specs.Paths.{Stays, all_sets};
 ghost use Rattle.closing.specs.Picks.{Tells, TellsPick, Bounds};
 
+use meaning::turns;
 use sets::{Path, Set};
 
 // Whether a test holds under every pick of a value from a set.
@@ -65,14 +66,13 @@ fn at_least<F: Fn(Set) -> u8>(m: &[u8], ys: &[u8], c: usize, k: u8, bound: F) ->
     requires callable { F.IsAlwaysCallable bound }
     ensures { (g : ℕ → ℕ) → Bounds (F.post bound) g → result ≡ at_least (λ j. g (sat ys.now (member_of m.now c j))) (member_count m.now c) k }
 {
-    // A loop and no `filter`: what its closure asks of a member's number stays open, and its count says no value of a member.
-    let n = fields::member_count(m, c);
-    let mut found = 0;
-    for j in 0..n {
-        let v = bound(sets::at(ys, choice_rules::member(m, c, j)));
-        found = choice_rules::counted(k <= v, found);
-    }
-    found
+    turns::count(
+        fields::member_count(m, c),
+        |j|
+            requires { (c < 65536) × (j < 65536) × F.IsAlwaysCallable bound }
+            ensures { (g : ℕ → ℕ) → Bounds (F.post bound) g → result ≡ leb k (g (sat ys.entry.now (member_of m.entry.now c j))) }
+        { k <= bound(sets::at(ys, choice_rules::member(m, c, j))) },
+    )
 }
 
 // 11 at s.
