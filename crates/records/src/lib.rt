@@ -7,10 +7,10 @@ ghost use Rattle.std.specs.Prelude.{◌≡◌, ◌+◌, ◌<◌, ◌^◌, ◌&&�
 ghost use Rattle.std.specs.List.{list_all};
 ghost use Rattle.meaning.specs.Book.{symbols as symbols_of, nodes as nodes_of, type_of, prompt_of, depend_of, choice_kind, member_symbol};
 ghost use Rattle.meaning.specs.Book.{is_digit, is_name_byte, name_ok, node_fits};
-ghost use Rattle.fields.specs.Numbers.{number_of_op, number_of_type};
+ghost use Rattle.fields.specs.Numbers.{number_of_op};
 ghost use Rattle.meaning.specs.Book.{node_ok, default_ok, select_ok, bound_ok, range_ok, member_due, choice_ok, record_ok};
 
-use fields::{Op, SymbolType};
+use fields::Op;
 
 // A to Z, 0 to 9, or the underscore.
 fn is_name_byte(b: u8) -> bool
@@ -121,18 +121,16 @@ fn select_ok(m: &[u8], k: usize) -> bool
         & fields::is_three(m, target)
 }
 
-// A range's bound of type y, an int or a hex: a constant or a symbol of it.
+// A range's bound of type y: a constant or a symbol of it. By number: a constant's op is its type's number, and the enums cost a book of ranges
+// 14% more instructions.
 #[tactic(auto, unfolding(meaning::specs::Book::bound_ok))]
-fn bound_ok(m: &[u8], y: SymbolType, i: usize) -> bool
-    requires { (2 < number_of_type y) × (i < 2 ^ 32) }
-    ensures { result ≡ bound_ok m.now (number_of_type y) i }
+fn bound_ok(m: &[u8], y: u8, i: usize) -> bool
+    requires { i < 2 ^ 32 }
+    ensures { result ≡ bound_ok m.now y i }
 {
-    let of_type = match (fields::node_op(m, i), y) {
-        (Some(Op::Int), SymbolType::Int) | (Some(Op::Hex), SymbolType::Hex) => true,
-        (Some(Op::Symbol), _) => fields::symbol_type(m, fields::left_of(m, i)) == Some(y),
-        _ => false,
-    };
-    (i < fields::nodes(m)) & of_type
+    let op = fields::op_of(m, i);
+    let named = (op == 1) & (fields::type_of(m, fields::left_of(m, i)) == y);
+    (i < fields::nodes(m)) & ((op == y) | named)
 }
 
 // A range: it is on an int or a hex.
@@ -142,15 +140,12 @@ fn range_ok(m: &[u8], r: usize) -> bool
     ensures { result ≡ range_ok m.now r }
 {
     let s = fields::range_symbol(m, r);
-    match fields::symbol_type(m, s) {
-        Some(y @ (SymbolType::Int | SymbolType::Hex)) => {
-            (s < fields::symbols(m))
-                & bound_ok(m, y, fields::low_of(m, r))
-                & bound_ok(m, y, fields::high_of(m, r))
-                & (fields::range_condition(m, r) < fields::nodes(m))
-        }
-        _ => false,
-    }
+    let y = fields::type_of(m, s);
+    (s < fields::symbols(m))
+        & ((y == 3) | (y == 4))
+        & bound_ok(m, y, fields::low_of(m, r))
+        & bound_ok(m, y, fields::high_of(m, r))
+        & (fields::range_condition(m, r) < fields::nodes(m))
 }
 
 // Where a choice's members must begin: where those of the choice before it end.
