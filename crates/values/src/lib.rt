@@ -44,9 +44,8 @@ pub fn leaf(m: &[u8], t: &[u8], i: usize) -> Leaf
     requires { i < 2 ^ 32 }
     ensures { leaf_content m.now t.now result ≡ leaf_of m.now t.now i }
 {
-    let op = fields::node_op(m, i);
     let left = fields::left_of(m, i);
-    match op {
+    match fields::node_op(m, i) {
         Some(Op::Constant) => Leaf::Three(constant(left)),
         Some(Op::Symbol) => Leaf::from(entries::value(t, left)),
         Some(Op::Text) => Leaf::Note(fields::text_start(m) + left, fields::right_of(m, i)),
@@ -63,9 +62,8 @@ fn leaf_value(m: &[u8], t: &[u8], i: usize) -> Tri
     requires { i < 2 ^ 32 }
     ensures { result.v ≡ leaf_value m.now t.now i }
 {
-    let op = fields::node_op(m, i);
     let left = fields::left_of(m, i);
-    match op {
+    match fields::node_op(m, i) {
         Some(Op::Constant) => Tri { v: constant(left) },
         Some(Op::Symbol) => entries::three(t, left),
         _ => Tri::N,
@@ -91,10 +89,9 @@ fn node_value(m: &[u8], t: &[u8], done: &[u8], i: usize) -> Tri
     requires { i < 2 ^ 32 }
     ensures { result.v ≡ node_value m.now t.now done.now i }
 {
-    let op = fields::node_op(m, i);
     let left = fields::left_of(m, i);
     let right = fields::right_of(m, i);
-    match op {
+    match fields::node_op(m, i) {
         Some(Op::Constant | Op::Symbol | Op::Text | Op::Int | Op::Hex) => leaf_value(m, t, i),
         Some(Op::Not) => at(done, left).not(),
         Some(Op::And) => at(done, left).and(at(done, right)),
