@@ -232,7 +232,9 @@ fn body_fault(m: &[u8], f: &[u8], w: &mut [u8], ys: &mut [u8]) -> Outcome
     clearance_fault(m, f, w, ys)
 }
 
-// The body of a finding, over rooms of one byte a node and a symbol; both are zero afterwards.
+// The body of a finding, over rooms of one byte a node and a symbol; both are zero afterwards. On its own, it keeps `check`'s frame small
+// while the book is looked at.
+#[inline(never)]
 fn body(m: &[u8], f: &[u8], w: &mut [u8], ys: &mut [u8]) -> Outcome
     requires { (4 ≤ length f.now) × (length f.now < 65536) × (length w.old ≡ nodes_of m.now) × (length ys.old ≡ symbols_of m.now) }
     ensures { (result ≡ body_fault m.now f.now) × (w.new ≡ replicate (nodes_of m.now) 0) × (ys.new ≡ replicate (symbols_of m.now) 0) }

@@ -20,7 +20,8 @@ fn types_fault(m: &[u8], t: &[u8]) -> Outcome
     turns::first_fault(fields::symbols(m), |s| symbol_rules::type_fault(m, t, s))
 }
 
-// 15 to 17, choice by choice.
+// 15 to 17, choice by choice. A call of its own, so that the rules before it need none of its stack.
+#[inline(never)]
 fn choices_fault(x: &Valued) -> Outcome
     ensures { result ≡ first_below (choice_fault x.now.model.now x.now.table.now x.now.work.now) (choices_of x.now.model.now) }
 {
