@@ -1,5 +1,5 @@
 -- What stands at a symbol, kind by kind, and where a body must start. Assumes nothing.
-use mathlib.Core.Path.{◌≡◌, refl, sym, ◌∙◌, ap}
+use mathlib.Core.Path.{◌≡◌, refl, ◌∙◌, ap}
 use mathlib.Core.Bool.{Bool, true, false, not}
 use mathlib.Core.List.{List}
 use Prim.Native.Nat.{ℕ, zero, suc, ◌+◌, ◌-◌, ◌≤◌, ◌<◌}
@@ -13,7 +13,6 @@ use lib.ListN.{get_or}
 use borrow.Author.Tests.{lt-ltb, le-ltb, ne_eqb, ltb-true, ltb-false}
 use Rattle.tri.specs.Three.{tri_of}
 use Rattle.std.specs.Prelude.{Some, None, is_none}
-use Rattle.meaning.specs.declared.Value.{Value}
 use Rattle.meaning.specs.declared.Value.TheVariants.{Three, Text, Int, Hex}
 use Rattle.meaning.specs.Base.{pick, word}
 use Rattle.meaning.specs.Table.{entries, kind_of, length_of, start_of, body_due, entry_ok, signed_of, read_of, entry_of, content_in, content_of, three_in, value_of}

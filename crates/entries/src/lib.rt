@@ -62,7 +62,7 @@ fn length(t: &[u8], s: usize) -> usize
     requires { s < 2 ^ 32 }
     ensures { (result ≡ length_of t.now s) × (result < 256) }
 {
-    raw::wide(raw::byte(t, 4 + 4 * s + 1))
+    usize::from(raw::byte(t, 4 + 4 * s + 1))
 }
 
 // Where an entry's body starts.

@@ -493,6 +493,6 @@ pub fn name_from(m: &[u8], symbols: usize, texts: usize, s: usize) -> &[u8]
     requires { (symbols ≡ start_of m.now 1) × (symbols < 65536) × (texts ≡ text_start m.now) × (texts < 65536) × (s < 2 ^ 32) }
     ensures { (result.now ≡ spelled_name m.now s) × (length result.now < 256) }
 {
-    let n = raw::wide(name_length_from(m, symbols, s));
+    let n = usize::from(name_length_from(m, symbols, s));
     raw::part(m, texts + name_offset_from(m, symbols, s), n)
 }

@@ -66,7 +66,7 @@ fn few(s: &[u8]) -> usize
     let Some(last) = s.last() else {
         return 0;
     };
-    raw::wide(s[0]) + 256 * raw::wide(s[s.len() / 2]) + 65536 * raw::wide(*last)
+    usize::from(s[0]) + 256 * usize::from(s[s.len() / 2]) + 65536 * usize::from(*last)
 }
 
 // A name's key.
@@ -279,7 +279,7 @@ impl<'a> Links<'a> {
         ensures found { IfOk result (λ o. MatchOption o (NotAmong self.now.block.m.now self.now.block.base name.now self.now.count) (λ j. (j < self.now.count) × (name.now ≡ spelled_name self.now.block.m.now (self.now.block.base + j)))) }
         ensures busy { IfErr result (λ _. limited ≡ true) }
     {
-        let mut c = raw::wide(self.rooms.heads[part::<LINK, LINKS>(key)]);
+        let mut c = usize::from(self.rooms.heads[part::<LINK, LINKS>(key)]);
         let mut compared: usize = 0;
         while let Some(j) = c.checked_sub(1) {
             if limited && compared == MOST {
@@ -288,7 +288,7 @@ impl<'a> Links<'a> {
             if raw::same(name, self.block.name(self.block.base + j)) {
                 return Ok(Some(j));
             }
-            c = raw::wide(self.rooms.nexts[j]);
+            c = usize::from(self.rooms.nexts[j]);
             compared += 1;
         }
         Ok(None)

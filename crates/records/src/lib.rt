@@ -38,7 +38,7 @@ fn name_ok(m: &[u8], s: usize) -> bool
     requires { s < 2 ^ 32 }
     ensures { result ≡ name_ok m.now s }
 {
-    let n = raw::wide(fields::name_length(m, s));
+    let n = usize::from(fields::name_length(m, s));
     let name = raw::part(m, fields::name_start(m, s), n);
     let end = fields::name_offset(m, s) + n;
     (1 <= n) & (n <= 64) & (end <= fields::texts(m)) & (name.len() == n) & spelled_well(name)
