@@ -30,9 +30,6 @@ pub long_model : (i : List ℕ) {r : ℕ} → 2 ≤ length i → r ≡ half i 0 
 unfolding model_length
 long_model i le e = rw (le-ltb (length i) 2 le) e
 
-pub rest_past : (s : List ℕ) (at : ℕ) → length s ≤ at → [] ≡ drop at s
-rest_past s at h = sym (drop_of_length-le s h)
-
 -- A NAME is no longer than a byte counts
 either_short : (o : Outcome) (q : Bool) (l : List ℕ) → length l < 256 → length (if_clean o (pick q l []) []) < 256
 either_short (Ok _) true l h = h
@@ -54,15 +51,6 @@ module _ (m : List ℕ) (small : (i : ℕ) → get_or m i 0 < 256) where
 
 -- THE OFFENDER, by the tests on the number
 module _ (n p s : ℕ) where
-  pub first-place : (leb 10 n && leb n 14) || eqb n 18 ≡ true → p ≡ offender (Fault n p s)
-  first-place h = rw h
-
-  pub second-place : (leb 10 n && leb n 14) || eqb n 18 ≡ false → eqb n 15 || eqb n 16 ≡ true → s ≡ offender (Fault n p s)
-  second-place h k = rw (h, k)
-
-  pub no_place : (leb 10 n && leb n 14) || eqb n 18 ≡ false → eqb n 15 || eqb n 16 ≡ false → 65535 ≡ offender (Fault n p s)
-  no_place h k = rw (h, k)
-
 -- WRITING
 -- one text behind another
 module _ (o : List ℕ) (at : ℕ) {x : List ℕ} {r : ℕ} {a : List ℕ} (le : r ≤ length o) (w : Written o at x r a) where
