@@ -100,7 +100,8 @@ fn block_fault(x: &Valued, base: usize, end: usize) -> Outcome
             low[i] = raised(x, k, low[i]);
         }
     }
-    // One more than the number of the first default, 0 for none: as options these would take 192 bytes more, and the stack goes over its bar.
+    // One more than the number of the first default, 0 for none: as options these would take 192 bytes more of the stack, of which a table check
+    // has 968 now and 1,023 at most.
     let mut first = [0u16; BLOCK];
     let defaults = fields::defaults(m);
     let defaults_at = fields::start(m, 3);
