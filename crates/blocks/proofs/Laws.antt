@@ -21,26 +21,15 @@ use Rattle.meaning.specs.Values.{val, leaf_of, given, condition_value, lower_ste
 use Rattle.meaning.specs.Rules.{broken13_content, three_tests, three_fault, other_fault, test14, symbol_fault}
 use Rattle.meaning.proofs.First.{clean_all, all_clean, block_fault, first_fault, first_clean}
 use Rattle.symbol_rules.specs.Ranges.{KeptBelow, FirstOff}
-use Rattle.blocks.specs.Rows.{place_of, Rows, first_default, chosen, own_fault}
-
--- WHERE A SYMBOL STANDS in a block
-place_in : (t base a : ℕ) → t < 65536 → base < 65536 → t ≡ base + a → a < 96 → place_of t base ≡ a
-place_in t base a lt lb e l = let z : t + 65536 - base ≡ a + 65536 = omega arith in rw z (omega arith)
-
-place_out : (t base a : ℕ) → t < 65536 → base < 65536 → base + a < 65536 → (t ≡ base + a → ⊥) → a < 96 → a ≡ place_of t base → ⊥
-place_out t base a lt lb lw n l e = n (omega arith)
+use Rattle.blocks.specs.Rows.{Rows, first_default, chosen, own_fault}
 
 -- A STORE of v at the place of symbol t: what then stands at the place a
-module _ (room : List ℕ) (base a : ℕ) {t i : ℕ} (v : ℕ) (lt : t < 65536) (lb : base < 65536) (ei : i ≡ place_of t base) (l : a < 96)
-    (w : base + a < 65536) where
-  stored_here : length room ≡ 96 → eqb t (base + a) ≡ true → (i ≡ a) × (get_or (set room i v) a 0 ≡ v)
-  stored_here len h = let z : i ≡ a = ei ∙ place_in t base a lt lb (eqb-true _ _ h) l in (z, rw z (get_or-set_same room a v 0 (omega arith)))
+module _ (room : List ℕ) (base a : ℕ) {t i : ℕ} (v : ℕ) (le : base ≤ t) (ei : i ≡ t - base) where
+  stored_here : length room ≡ 96 → a < 96 → eqb t (base + a) ≡ true → (i ≡ a) × (get_or (set room i v) a 0 ≡ v)
+  stored_here len l h = let e = eqb-true _ _ h in let z : i ≡ a = omega (arith, e) in (z, rw z (get_or-set_same room a v 0 (omega arith)))
 
   stored_apart : eqb t (base + a) ≡ false → get_or (set room i v) a 0 ≡ get_or room a 0
-  stored_apart h = get_or-set_other room i a v 0 (λ e. place_out t base a lt lb w (eqb-false _ _ h) l (e ∙ ei))
-
-  not_here : 96 ≤ i → eqb t (base + a) ≡ true → ⊥
-  not_here out h = absurd (omega (arith, ei ∙ place_in t base a lt lb (eqb-true _ _ h) l))
+  stored_apart h = get_or-set_other room i a v 0 (λ e. eqb-false _ _ h (omega arith))
 
 -- A PASS: before its first turn, and after the turn of record j, on symbol t, that stores v at place i, or nothing outside the block
 module _ (step : ℕ → ℕ → ℕ → ℕ) (base : ℕ) where
@@ -48,28 +37,26 @@ module _ (step : ℕ → ℕ → ℕ → ℕ) (base : ℕ) where
   unfolding fold
   rows_none i l w = get_or-replicate 96 i 0 0 l
 
-  module _ (room : List ℕ) (j : ℕ) (f : ℕ → ℕ) {t i : ℕ} (es : (s x : ℕ) → step s j x ≡ pick (eqb t s) (f x) x) (lt : t < 65536) (lb : base < 65536)
-      (ei : i ≡ place_of t base) (all : Rows step j base room) where
-    off : (a : ℕ) → a < 96 → base + a < 65536 → eqb t (base + a) ≡ false → get_or room a 0 ≡ fold (step (base + a)) 0 (suc j)
-    unfolding fold
+  module _ (room : List ℕ) (j : ℕ) (f : ℕ → ℕ) (t : ℕ) (es : (s x : ℕ) → step s j x ≡ pick (eqb t s) (f x) x) (all : Rows step j base room) where
+    off : (a : ℕ) → a < 96 → base + a < 65536 → eqb t (base + a) ≡ false → get_or room a 0 ≡ step (base + a) j (fold (step (base + a)) 0 j)
     off a l w h = rw (es (base + a) (fold (step (base + a)) 0 j), h) (all a l w)
 
-    pub rows_more : {v : ℕ} → v ≡ f (get_or room i 0) → length room ≡ 96 → Rows step (j + 1) base (set room i v)
+    pub rows_more : {i v : ℕ} → base ≤ t → i ≡ t - base → v ≡ f (get_or room i 0) → length room ≡ 96 → Rows step (j + 1) base (set room i v)
     unfolding fold
-    rows_more {v} ev len a l w = rw (add-one j) (turn (eqb t (base + a)) refl)
+    rows_more {i} {v} le ei ev len a l w = rw (add-one j) (turn (eqb t (base + a)) refl)
       where
         turn : (q : Bool) → eqb t (base + a) ≡ q → get_or (set room i v) a 0 ≡ step (base + a) j (fold (step (base + a)) 0 j)
         turn true h =
-            let z = stored_here room base a v lt lb ei l w len h in
+            let z = stored_here room base a v le ei len l h in
             rw (es (base + a) (fold (step (base + a)) 0 j), h) (z.1 ∙ ev ∙ rw z.0 (ap f (all a l w)))
-        turn false h = stored_apart room base a v lt lb ei l w h ∙ off a l w h
+        turn false h = stored_apart room base a v le ei h ∙ off a l w h
 
-    pub rows_same : 96 ≤ i → Rows step (j + 1) base room
+    pub rows_same : ((base ≤ t) × (t - base < 96) → ⊥) → Rows step (j + 1) base room
     unfolding fold
     rows_same out a l w = rw (add-one j) (turn (eqb t (base + a)) refl)
       where
         turn : (q : Bool) → eqb t (base + a) ≡ q → get_or room a 0 ≡ step (base + a) j (fold (step (base + a)) 0 j)
-        turn true h = absurd (not_here room base a 0 lt lb ei l w out h)
+        turn true h = let e = eqb-true t (base + a) h in absurd (out (omega (arith, e), omega (arith, e)))
         turn false h = off a l w h
 
   pub rows_at : (room : List ℕ) (n s : ℕ) → Rows step n base room → base ≤ s → s < base + 96 → s < 65536 → get_or room (s - base) 0 ≡ fold (step s) 0 n

@@ -1,4 +1,4 @@
--- Rules 13 and 14 over what was read. Assumes nothing.
+-- Rule 14 over what was read, and the first symbol that breaks a range. Assumes nothing.
 use mathlib.Core.Path.{◌≡◌, refl, sym, ◌∙◌}
 use mathlib.Core.Logic.{⊎_elim}
 use mathlib.Core.Bool.{Bool, true, false, ◌&&◌, not}
@@ -15,8 +15,8 @@ use Rattle.meaning.specs.declared.Value.{Value}
 use Rattle.meaning.specs.Base.{when}
 use Rattle.meaning.specs.Book.{range_symbol, low_of, high_of, range_condition}
 use Rattle.meaning.specs.Table.{read_of, content_of}
-use Rattle.meaning.specs.Values.{val, leaf_of, prompt_value}
-use Rattle.meaning.specs.Rules.{same_content, broken13_content, within, test14}
+use Rattle.meaning.specs.Values.{val, leaf_of}
+use Rattle.meaning.specs.Rules.{within, test14}
 use Rattle.spell.specs.declared.Leaf.{Leaf}
 use Rattle.spell.specs.Leaves.{leaf_content, leaf_of_value}
 use Rattle.values.proofs.Laws.{as_leaf}
@@ -28,13 +28,6 @@ use Rattle.symbol_rules.specs.Ranges.{KeptAt, KeptBelow, FirstOff}
 pub content_is : (m t : List ℕ) (s : ℕ) (l : Leaf) {w : Value} → l ≡ leaf_of_value w → w ≡ read_of t s → leaf_content m t l ≡ content_of t s
 unfolding content_of
 content_is m t s l {w} e f = rw e (rw f (as_leaf m t (read_of t s)))
-
--- RULE 13 of a string, int or hex, by its Default
-pub other_is :
-    (m t vs : List ℕ) (s : ℕ) (v d : Leaf) {r : Outcome} {p : ℕ} {q : Bool} → r ≡ when (eqb p 0 && not q) (Fault 13 s 65535)
-    → p ≡ prompt_value m vs s → q ≡ same_content (leaf_content m t v) (leaf_content m t d) → leaf_content m t v ≡ content_of t s
-    → r ≡ when (broken13_content (content_of t s) (prompt_value m vs s) (leaf_content m t d)) (Fault 13 s 65535)
-other_is m t vs s v d e ep eq ev = e ∙ rw (ep, eq, ev)
 
 -- RULE 14 by a range on another symbol, and by one on s
 pub range_off : (m t vs : List ℕ) (s r : ℕ) {x : ℕ} → x ≡ range_symbol m r → (x ≡ s → ⊥) → Clean ≡ test14 m t vs s r
