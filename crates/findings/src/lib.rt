@@ -13,6 +13,7 @@ ghost use Rattle.sets.specs.Work.{blank_of};
 ghost use Rattle.findings.specs.Walks.{walked, splits_at};
 ghost use Rattle.findings.specs.Found.{Found};
 
+use closing::Mark;
 use meaning::{Head, Outcome, Refusal, Stop, Walked, refuse, refuse_if};
 use sets::Set;
 
@@ -33,14 +34,14 @@ fn leaf_stands(m: &[u8], q: usize, rule: u8, place: usize) -> bool
     requires { place < 65536 }
     ensures { result ≡ leaf_stands m.now q rule place }
 {
-    if rule == 20 {
-        return place == q;
+    match Mark::try_from(rule) {
+        Ok(Mark::Met) => place == q,
+        Ok(Mark::One | Mark::Mandatory) => place < fields::choices(m),
+        Ok(Mark::Lower | Mark::Upper | Mark::Default | Mark::Modules) => {
+            (place < fields::symbols(m)) & fields::is_three(m, place)
+        }
+        Err(_) => false,
     }
-    if (rule == 15) | (rule == 17) {
-        return place < fields::choices(m);
-    }
-    let rules = (rule == 11) | (rule == 12) | (rule == 13) | (rule == 18);
-    rules & (place < fields::symbols(m)) & fields::is_three(m, place)
 }
 
 // A leaf, if its rule may stand there.
