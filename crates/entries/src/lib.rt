@@ -101,10 +101,7 @@ fn length_fits(kind: Kind, l: usize) -> bool
 fn byte_fits(kind: Kind, b: u8) -> bool
     ensures { result ≡ byte_fits (number_of kind) b }
 {
-    match kind {
-        Kind::Three => b <= 2,
-        _ => true,
-    }
+    (kind != Kind::Three) | (b <= 2)
 }
 
 // Whether entry s, of n, is well formed.

@@ -36,7 +36,7 @@ pub enum SymbolType {
     Hex = 4,
 }
 
-// A byte that no op, or no type, has for its number.
+// A byte that stands for none of the values that are asked for.
 #[derive(Clone, Copy, PartialEq, Eq)]
 pub struct Unknown(pub u8);
 

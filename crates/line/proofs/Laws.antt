@@ -49,8 +49,6 @@ module _ (m : List ℕ) (small : (i : ℕ) → get_or m i 0 < 256) where
   unfolding name_of
   short_name s e = (e, rw e (either_short (book_fault m) (ltb s (symbols m)) (spelled_name m s) (spelled_short s)))
 
--- THE OFFENDER, by the tests on the number
-module _ (n p s : ℕ) where
 -- WRITING
 -- one text behind another
 module _ (o : List ℕ) (at : ℕ) {x : List ℕ} {r : ℕ} {a : List ℕ} (le : r ≤ length o) (w : Written o at x r a) where

@@ -6,11 +6,8 @@
 ghost use Rattle.std.specs.Prelude.{◌≡◌, ◌+◌, ◌<◌, ◌^◌, ◌&&◌, not, leb, ltb};
 ghost use Rattle.std.specs.List.{list_all};
 ghost use Rattle.meaning.specs.Book.{symbols as symbols_of, nodes as nodes_of, type_of, prompt_of, depend_of, choice_kind, member_symbol};
-ghost use Rattle.meaning.specs.Book.{is_digit, is_name_byte, name_ok, node_fits};
-ghost use Rattle.fields.specs.Numbers.{number_of_op};
+ghost use Rattle.meaning.specs.Book.{is_digit, is_name_byte, name_ok, leaf_fits, node_fits};
 ghost use Rattle.meaning.specs.Book.{node_ok, default_ok, select_ok, bound_ok, range_ok, member_due, choice_ok, record_ok};
-
-use fields::Op;
 
 // A to Z, 0 to 9, or the underscore.
 fn is_name_byte(b: u8) -> bool
@@ -50,44 +47,55 @@ pub fn symbol_fits(m: &[u8], s: usize) -> bool
     ensures { result ≡ (leb (type_of m.now s) 4 && name_ok m.now s && ltb (prompt_of m.now s) (nodes_of m.now) && ltb (depend_of m.now s) (nodes_of m.now)) }
 {
     let nodes = fields::nodes(m);
-    fields::symbol_type(m, s).is_some()
+    (fields::type_of(m, s) <= 4)
         & name_ok(m, s)
         & (fields::prompt_of(m, s) < nodes)
         & (fields::depend_of(m, s) < nodes)
 }
 
-// The fields of a node, by its op: those of a leaf, or of what joins nodes before it.
-#[tactic(auto, unfolding(meaning::specs::Book::node_fits, meaning::specs::Book::leaf_fits))]
-fn node_fits(m: &[u8], i: usize, op: Op, left: usize, right: usize) -> bool
+// A leaf's fields, by its op. By number, here and in `node_fits`: by `fields::Op` a table of a chain or of trees costs 2.4% more instructions.
+#[tactic(auto, unfolding(meaning::specs::Book::leaf_fits))]
+fn leaf_fits(m: &[u8], op: u8, left: usize, right: usize) -> bool
     requires { (left < 65536) × (right < 65536) }
-    ensures { result ≡ node_fits m.now i (number_of_op op) left right }
+    ensures { result ≡ leaf_fits m.now op left right }
 {
     match op {
-        Op::Constant => (left <= 2) & (right == 0),
-        Op::Symbol => (left < fields::symbols(m)) & (right == 0),
-        Op::Text => (right <= 64) & (left + right <= fields::texts(m)),
-        Op::Int | Op::Hex => true,
-        Op::Not => (left < i) & (right == 0),
-        Op::And | Op::Or => (left < i) & (right < i),
-        Op::Equal | Op::Unequal => {
-            (left < i) & (right < i) & fields::is_leaf(m, left) & fields::is_leaf(m, right)
-        }
+        0 => (left <= 2) & (right == 0),
+        1 => (left < fields::symbols(m)) & (right == 0),
+        2 => (right <= 64) & (left + right <= fields::texts(m)),
+        _ => true,
+    }
+}
+
+// The fields of node i, by its op: a leaf; not; and, or; equal, not equal. Any other op is refused.
+#[tactic(auto, unfolding(meaning::specs::Book::node_fits))]
+fn node_fits(m: &[u8], i: usize, op: u8, left: usize, right: usize) -> bool
+    requires { (left < 65536) × (right < 65536) }
+    ensures { result ≡ node_fits m.now i op left right }
+{
+    match op {
+        0..=4 => leaf_fits(m, op, left, right),
+        5 => (left < i) & (right == 0),
+        6..=7 => (left < i) & (right < i),
+        8..=9 => (left < i) & (right < i) & fields::is_leaf(m, left) & fields::is_leaf(m, right),
+        _ => false,
     }
 }
 
 // A node.
-#[tactic(auto, unfolding(meaning::specs::Book::node_ok, meaning::specs::Book::node_fits))]
+#[tactic(auto, unfolding(meaning::specs::Book::node_ok))]
 fn node_ok(m: &[u8], i: usize) -> bool
     requires { i < 2 ^ 32 }
     ensures { result ≡ node_ok m.now i }
 {
-    match fields::node_op(m, i) {
-        Some(op) => {
-            let fits = node_fits(m, i, op, fields::left_of(m, i), fields::right_of(m, i));
-            (fields::zero_of(m, i) == 0) & fits
-        }
-        None => false,
-    }
+    let fits = node_fits(
+        m,
+        i,
+        fields::op_of(m, i),
+        fields::left_of(m, i),
+        fields::right_of(m, i),
+    );
+    (fields::zero_of(m, i) == 0) & fits
 }
 
 // A default: a string's, int's or hex's is a leaf.
@@ -121,8 +129,8 @@ fn select_ok(m: &[u8], k: usize) -> bool
         & fields::is_three(m, target)
 }
 
-// A range's bound of type y: a constant or a symbol of it. By number: a constant's op is its type's number, and the enums cost a book of ranges
-// 14% more instructions.
+// A range's bound of type y: a constant or a symbol of it. By number, since a constant's op is its type's number; by `fields::SymbolType` a book of
+// ranges costs 14% more instructions.
 #[tactic(auto, unfolding(meaning::specs::Book::bound_ok))]
 fn bound_ok(m: &[u8], y: u8, i: usize) -> bool
     requires { i < 2 ^ 32 }

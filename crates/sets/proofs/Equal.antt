@@ -108,30 +108,6 @@ letter_int v (negsuc n) = one_unlike (letter v) (45 ∷ digits 10 12 (suc n) [])
 letter_hex : (v h : ℕ) → same_text (letter v ∷ []) (spelled_hex h) ≡ false
 letter_hex v h = one_unlike (letter v) (48 ∷ 120 ∷ digits 16 12 h []) (omega arith)
 
--- SIDES: what an equality asks of a leaf, op by op
-module _ (m ys : List ℕ) (i : ℕ) {op : ℕ} (eo : op ≡ op_of m i) where
-  pub side_plain : (op ≡ 0 → ⊥) → (op ≡ 1 → ⊥) → SideOf m ys i Plain
-  unfolding is_free leaf_set
-  side_plain a b = (
-    rw (← eo, ne_eqb op 1 b),
-    rw (← eo, ne_eqb op 0 a, ne_eqb op 1 b),
-    rw (← eo) (lt-leb op 1 (omega arith)),
-  )
-
-  module _ {left : ℕ} (el : left ≡ left_of m i) where
-    pub side_constant : {a : Set} → op ≡ 0 → a.bits ≡ only (tri_of left) → SideOf m ys i (Three a)
-    unfolding is_free leaf_set
-    side_constant z ea = (rw (← eo, z), rw (← eo, z, ← el) ea, rw (← eo, z))
-
-    module _ {three : Bool} (z : op ≡ 1) (et : three ≡ three_type m left) where
-      pub side_three : {a : Set} → three ≡ true → a.bits ≡ sat ys left → SideOf m ys i (Three a)
-      unfolding is_free leaf_set
-      side_three t ea = (rw (← eo, z, ← el, ← et, t), rw (← eo, z, ← el) ea, rw (← eo, z))
-
-      pub side_free : three ≡ false → SideOf m ys i Free
-      unfolding is_free
-      side_free t = rw (← eo, z, ← el, ← et, t)
-
 -- LEAVES against a letter: a number, a text of one byte, any other text, and what is no leaf
 module _ (m : List ℕ) (i : ℕ) {op : ℕ} (eo : op ≡ op_of m i) where
   pub lone_number : leb (op_of m i) 1 ≡ false → op ≤ 4 → (op ≡ 2 → ⊥) → Lone m i None

@@ -1,5 +1,5 @@
 -- `sets::Path::node_among` meets its contract: what is kept is the set itself, operands come before their node, and working out more changes nothing.
-use mathlib.Core.Path.{refl, sym, ◌∙◌}
+use mathlib.Core.Path.{sym, ◌∙◌}
 use native.Mathlib.Omega.{arith}
 use Rattle.meaning.specs.Sets.{node_set}
 use Rattle.meaning.specs.Base.{build}
@@ -28,13 +28,13 @@ pub keep-requires-then-op-gt7-clause-due : goal.keep-requires-then-op-gt7-clause
 keep-requires-then-op-gt7-clause-due t c =
     let m = c.args.self.now.m.now in
     let ys = c.args.self.now.ys.now in
-    due m ys c.args.i (omega arith) (node_equal m ys (build (node_set m ys) c.args.i) c.args.i refl refl refl (rw c.op_of-op.ensures at c.if-op-gt7.true) c.equality-set.ensures.0)
+    due m ys c.args.i (omega arith) (node_equal m ys (build (node_set m ys) c.args.i) c.args.i c.op_of-op.ensures c.left_of-left.ensures.0 c.right_of-right.ensures.0 c.if-op-gt7.true c.equality-set.ensures.0)
 
 pub returns-then-op-gt7-clause-set : goal.returns-then-op-gt7-clause-set
 returns-then-op-gt7-clause-set t c =
     let m = c.args.self.now.m.now in
     let ys = c.args.self.now.ys.now in
-    settled m ys c.args.n c.args.i (omega arith) (node_equal m ys (build (node_set m ys) c.args.i) c.args.i refl refl refl (rw c.op_of-op.ensures at c.if-op-gt7.true) c.equality-set.ensures.0)
+    settled m ys c.args.n c.args.i (omega arith) (node_equal m ys (build (node_set m ys) c.args.i) c.args.i c.op_of-op.ensures c.left_of-left.ensures.0 c.right_of-right.ensures.0 c.if-op-gt7.true c.equality-set.ensures.0)
 
 pub returns-then-depth-eq0-clause-set : goal.returns-then-depth-eq0-clause-set
 returns-then-depth-eq0-clause-set t c =
