@@ -8,7 +8,6 @@ use lib.Dec.{ltb}
 use lib.ListN.{get_or, length, drop, length-take}
 use borrow.Author.Tests.{ltb-true}
 use Rattle.meaning.specs.Base.{part}
-use Rattle.meaning.specs.Book.{width}
 
 -- each number of a list is below b
 abbrev all_small : ℕ → List ℕ → Bool

@@ -1,17 +1,16 @@
 -- One text written behind another, how long a name can be, and the line from its parts. Assumes nothing.
 use mathlib.Core.Path.{◌≡◌, sym, ◌∙◌, ap}
-use mathlib.Core.Bool.{Bool, true, false, ◌&&◌, ◌||◌}
-use lib.Dec.{eqb, leb, ltb}
+use mathlib.Core.Bool.{Bool, true, false}
+use lib.Dec.{ltb}
 use mathlib.Core.List.{List, [], ◌∷◌, ◌++◌, append_assoc}
 use Prim.Native.Nat.{ℕ, ◌+◌, ◌*◌, ◌≤◌, ◌<◌}
 use native.Mathlib.Omega.{arith}
-use lib.ListN.{length, get_or, take, drop, length-append, length-take, length-drop, drop_of_length-le}
+use lib.ListN.{length, get_or, take, drop, length-append, length-take, length-drop}
 use lib.Seq.{length-take-le, take_at, drop_at, drop-drop}
 use borrow.Author.Tests.{lt-ltb, le-ltb}
 use Rattle.meaning.specs.declared.Answer.{Answer}
 use Rattle.meaning.specs.Base.{Outcome}
 use Rattle.std.specs.Prelude.{Ok, Err}
-use Rattle.meaning.specs.Base.{Fault}
 use Rattle.meaning.specs.Base.{pick, half, part, if_clean, answer_of}
 use Rattle.meaning.specs.Book.{name_of, byte_in, book_fault, symbols, start, width, spelled_name, name_length, name_start}
 use Rattle.meaning.specs.Rules.{node_work}

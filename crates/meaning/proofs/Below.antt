@@ -2,12 +2,12 @@
 use mathlib.Core.Path.{◌≡◌, refl, sym}
 use mathlib.Core.Logic.{⊎_elim}
 use mathlib.Core.Bool.{Bool, true, false, and-false, and-eq-true_iff}
-use Prim.Native.Nat.{ℕ, zero, suc, ◌+◌, ◌≤◌, ◌<◌}
+use Prim.Native.Nat.{ℕ, zero, suc, ◌+◌, ◌<◌}
 use native.Mathlib.Nat.{eq-or-lt_of_le, le_of_suc-le-suc, not-suc-le-zero}
 use native.Mathlib.Omega.{arith}
 use native.Mathlib.Numerals.{add-one}
 use borrow.Author.Tests.{eq-eqb, ne_eqb}
-use Rattle.meaning.specs.Base.{pick, fold, all_below, first_where, count_below}
+use Rattle.meaning.specs.Base.{pick, all_below, first_where, count_below}
 use Rattle.meaning.proofs.Folds.{fold_none, fold_more}
 
 -- ALL: what holds of each

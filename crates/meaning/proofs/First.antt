@@ -6,10 +6,9 @@ use mathlib.Core.Logic.{◌⊎◌, inl, inr, ◌↔◌, ⊎_elim}
 use native.Mathlib.Nat.{not-suc-le-zero, eq-or-lt_of_le, le_of_suc-le-suc}
 use native.Mathlib.Omega.{arith}
 use native.Mathlib.Numerals.{add-one}
-use Rattle.std.specs.Bool.{then_some}
-use Rattle.std.specs.Prelude.{Some, None, Ok, Err, is_err}
+use Rattle.std.specs.Prelude.{Ok, Err, is_err}
 use Rattle.meaning.specs.declared.Answer.{Answer}
-use Rattle.meaning.specs.Base.{Outcome, Clean, Fault, pick, if_clean, when, or_else, first_below}
+use Rattle.meaning.specs.Base.{Outcome, Clean, Fault, if_clean, when, or_else, first_below}
 
 abbrev pub IsClean : Outcome → Type 0
 IsClean a = a ≡ Clean

@@ -10,20 +10,17 @@ use lib.Dec.{eqb, leb, ltb}
 use lib.IntN.{ℤ, pos, negsuc}
 use lib.ListN.{length, get_or}
 use borrow.Author.Tests.{eq-eqb, ne_eqb, eqb-true, eqb-false, leb-false, lt-ltb, lt-leb}
-use Rattle.tri.specs.Three.{tri_of}
 use Rattle.meaning.specs.Base.{pick, fold, part, same_text}
-use Rattle.meaning.specs.Book.{op_of, left_of, right_of, text_start, three_type}
+use Rattle.meaning.specs.Book.{op_of, left_of, right_of, text_start}
 use Rattle.meaning.specs.Table.{signed_of}
 use Rattle.meaning.specs.Spell.{digit, digits, letter, spelled_int, spelled_hex}
 use Rattle.meaning.specs.Values.{leaf_of, yes_no, number_of}
-use Rattle.meaning.specs.Sets.{has, only, set_of, with_one, row, pairs, sat, leaf_set, is_free, spelled_at, equal_at, equal_set}
+use Rattle.meaning.specs.Sets.{has, set_of, with_one, row, pairs, leaf_set, is_free, spelled_at, equal_at, equal_set}
 use Rattle.spell.specs.declared.Leaf.{Leaf}
 use Rattle.spell.specs.Leaves.{leaf_content, spelled_leaf}
 use Rattle.sets.proofs.Laws.{at_other, equal_at_is}
-use Rattle.sets.specs.Work.{alike, by_letter, SideOf, Lone, fixed}
+use Rattle.sets.specs.Work.{alike, by_letter, Lone, fixed}
 use Rattle.std.specs.Prelude.{Option, Some, None}
-use Rattle.sets.specs.declared.Set.{Set}
-use Rattle.sets.specs.declared.Side.TheVariants.{Free, Three, Plain}
 
 -- PAIRS of which another operation makes the same
 pairs_like : {f g : ℕ → ℕ → ℕ} → ((x y : ℕ) → f x y ≡ g x y) → (a b : ℕ) → pairs f a b ≡ pairs g a b

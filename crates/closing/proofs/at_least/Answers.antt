@@ -1,7 +1,5 @@
 -- `closing::at_least` meets its contract: what the test says of a member is what the bound of its set says.
-use Prim.Native.Nat.{ℕ}
 use lib.Dec.{leb}
-use borrow.Author.Rules.{of_calls}
 use Rattle.meaning.specs.Rules.{at_least}
 use Rattle.meaning.specs.Book.{member_of}
 use Rattle.meaning.specs.Sets.{sat}

@@ -20,11 +20,12 @@ returns-in_err-fault_at g c = λ t z h.
     ∙ place_fault t _ _ (c.loop-i.invariant.3 t z h) (h _ _ (omega arith) (omega arith) c.fault_at.ensures) c.in_err-fault_at.was (omega arith)
 
 pub loop-i-preserved : goal.loop-i-preserved
-loop-i-preserved g c =
-    (omega arith,
-    omega arith,
-    λ j a l. below_more (λ k. c.args.from ≤ k → g.F.Fn.post c.args.fault_at (k, tt) Clean) c.loop-i.i (λ k m b. c.loop-i.invariant.2 k b m) (λ b. c.in_ok-fault_at.ensures) j l a,
-    λ t z h. clean_more t _ (c.loop-i.invariant.3 t z h) (h _ _ (omega arith) (omega arith) c.fault_at.ensures) c.in_ok-fault_at.was)
+loop-i-preserved g c = (
+  omega arith,
+  omega arith,
+  λ j a l. below_more (λ k. c.args.from ≤ k → g.F.Fn.post c.args.fault_at (k, tt) Clean) c.loop-i.i (λ k m b. c.loop-i.invariant.2 k b m) (λ b. c.in_ok-fault_at.ensures) j l a,
+  λ t z h. clean_more t _ (c.loop-i.invariant.3 t z h) (h _ _ (omega arith) (omega arith) c.fault_at.ensures) c.in_ok-fault_at.was,
+)
 
 pub returns : goal.returns
 returns g c = λ t z h. at_end (first_below t) (c.loop-i.invariant.3 t z h) (omega arith)
