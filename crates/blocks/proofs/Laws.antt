@@ -2,16 +2,16 @@
 use mathlib.Core.Path.{◌≡◌, refl, sym, ◌∙◌, ap}
 use mathlib.Core.Bool.{Bool, true, false}
 use mathlib.Core.List.{List, []}
-use Prim.Native.Nat.{ℕ, zero, suc, ◌+◌, ◌-◌, ◌≤◌, ◌<◌, min}
+use Prim.Native.Nat.{ℕ, zero, suc, ◌+◌, ◌-◌, ◌≤◌, ◌<◌}
 use native.Mathlib.Omega.{arith}
 use native.Mathlib.Numerals.{add-one}
 use lib.Dec.{eqb, ltb}
 use lib.ListN.{length, get_or, set, replicate, get_or-replicate}
 use lib.Seq.{get_or-set_same, get_or-set_other}
-use borrow.Author.Tests.{ne_eqb, eqb-true, eqb-false, ltb-true, ltb-false}
+use borrow.Author.Tests.{ne_eqb, eqb-true, eqb-false}
 use Rattle.tri.specs.Three.{or_of}
 use Rattle.meaning.specs.Base.{Outcome}
-use Rattle.std.specs.Prelude.{Ok, Err}
+use Rattle.std.specs.Prelude.{Ok, Err, Option, Some, None}
 use Rattle.meaning.specs.declared.Answer.{Answer}
 use Rattle.meaning.specs.Base.{Clean, Fault}
 use Rattle.meaning.specs.Base.{pick, fold, when, or_else, first_below}
@@ -20,27 +20,16 @@ use Rattle.meaning.specs.Table.{Content, a_text, content_of, value_of}
 use Rattle.meaning.specs.Values.{val, leaf_of, given, condition_value, lower_step, lower_from, lower_of, default_step, default_from, default_of, default_content, prompt_value}
 use Rattle.meaning.specs.Rules.{broken13_content, three_tests, three_fault, other_fault, test14, symbol_fault}
 use Rattle.meaning.proofs.First.{clean_all, all_clean, block_fault, first_fault, first_clean}
-use Rattle.symbol_rules.specs.Ranges.{KeptBelow, BrokenAt}
-use Rattle.blocks.specs.Rows.{place_of, Rows, first_default, chosen, own_fault}
-
--- WHERE A SYMBOL STANDS in a block
-place_in : (t base a : ℕ) → t < 65536 → base < 65536 → t ≡ base + a → a < 96 → place_of t base ≡ a
-place_in t base a lt lb e l = let z : t + 65536 - base ≡ a + 65536 = omega arith in rw z (omega arith)
-
-place_out : (t base a : ℕ) → t < 65536 → base < 65536 → base + a < 65536 → (t ≡ base + a → ⊥) → a < 96 → a ≡ place_of t base → ⊥
-place_out t base a lt lb lw n l e = n (omega arith)
+use Rattle.symbol_rules.specs.Ranges.{KeptBelow, FirstOff}
+use Rattle.blocks.specs.Rows.{Rows, first_default, chosen, own_fault}
 
 -- A STORE of v at the place of symbol t: what then stands at the place a
-module _ (room : List ℕ) (base a : ℕ) {t i : ℕ} (v : ℕ) (lt : t < 65536) (lb : base < 65536) (ei : i ≡ place_of t base) (l : a < 96)
-    (w : base + a < 65536) where
-  stored_here : length room ≡ 96 → eqb t (base + a) ≡ true → (i ≡ a) × (get_or (set room i v) a 0 ≡ v)
-  stored_here len h = let z : i ≡ a = ei ∙ place_in t base a lt lb (eqb-true _ _ h) l in (z, rw z (get_or-set_same room a v 0 (omega arith)))
+module _ (room : List ℕ) (base a : ℕ) {t i : ℕ} (v : ℕ) (le : base ≤ t) (ei : i ≡ t - base) where
+  stored_here : length room ≡ 96 → a < 96 → eqb t (base + a) ≡ true → (i ≡ a) × (get_or (set room i v) a 0 ≡ v)
+  stored_here len l h = let e = eqb-true _ _ h in let z : i ≡ a = omega (arith, e) in (z, rw z (get_or-set_same room a v 0 (omega arith)))
 
   stored_apart : eqb t (base + a) ≡ false → get_or (set room i v) a 0 ≡ get_or room a 0
-  stored_apart h = get_or-set_other room i a v 0 (λ e. place_out t base a lt lb w (eqb-false _ _ h) l (e ∙ ei))
-
-  not_here : 96 ≤ i → eqb t (base + a) ≡ true → ⊥
-  not_here out h = absurd (omega (arith, ei ∙ place_in t base a lt lb (eqb-true _ _ h) l))
+  stored_apart h = get_or-set_other room i a v 0 (λ e. eqb-false _ _ h (omega arith))
 
 -- A PASS: before its first turn, and after the turn of record j, on symbol t, that stores v at place i, or nothing outside the block
 module _ (step : ℕ → ℕ → ℕ → ℕ) (base : ℕ) where
@@ -48,28 +37,26 @@ module _ (step : ℕ → ℕ → ℕ → ℕ) (base : ℕ) where
   unfolding fold
   rows_none i l w = get_or-replicate 96 i 0 0 l
 
-  module _ (room : List ℕ) (j : ℕ) (f : ℕ → ℕ) {t i : ℕ} (es : (s x : ℕ) → step s j x ≡ pick (eqb t s) (f x) x) (lt : t < 65536) (lb : base < 65536)
-      (ei : i ≡ place_of t base) (all : Rows step j base room) where
-    off : (a : ℕ) → a < 96 → base + a < 65536 → eqb t (base + a) ≡ false → get_or room a 0 ≡ fold (step (base + a)) 0 (suc j)
-    unfolding fold
+  module _ (room : List ℕ) (j : ℕ) (f : ℕ → ℕ) (t : ℕ) (es : (s x : ℕ) → step s j x ≡ pick (eqb t s) (f x) x) (all : Rows step j base room) where
+    off : (a : ℕ) → a < 96 → base + a < 65536 → eqb t (base + a) ≡ false → get_or room a 0 ≡ step (base + a) j (fold (step (base + a)) 0 j)
     off a l w h = rw (es (base + a) (fold (step (base + a)) 0 j), h) (all a l w)
 
-    pub rows_more : {v : ℕ} → v ≡ f (get_or room i 0) → length room ≡ 96 → Rows step (j + 1) base (set room i v)
+    pub rows_more : {i v : ℕ} → base ≤ t → i ≡ t - base → v ≡ f (get_or room i 0) → length room ≡ 96 → Rows step (j + 1) base (set room i v)
     unfolding fold
-    rows_more {v} ev len a l w = rw (add-one j) (turn (eqb t (base + a)) refl)
+    rows_more {i} {v} le ei ev len a l w = rw (add-one j) (turn (eqb t (base + a)) refl)
       where
         turn : (q : Bool) → eqb t (base + a) ≡ q → get_or (set room i v) a 0 ≡ step (base + a) j (fold (step (base + a)) 0 j)
         turn true h =
-            let z = stored_here room base a v lt lb ei l w len h in
+            let z = stored_here room base a v le ei len l h in
             rw (es (base + a) (fold (step (base + a)) 0 j), h) (z.1 ∙ ev ∙ rw z.0 (ap f (all a l w)))
-        turn false h = stored_apart room base a v lt lb ei l w h ∙ off a l w h
+        turn false h = stored_apart room base a v le ei h ∙ off a l w h
 
-    pub rows_same : 96 ≤ i → Rows step (j + 1) base room
+    pub rows_same : ((base ≤ t) × (t - base < 96) → ⊥) → Rows step (j + 1) base room
     unfolding fold
     rows_same out a l w = rw (add-one j) (turn (eqb t (base + a)) refl)
       where
         turn : (q : Bool) → eqb t (base + a) ≡ q → get_or room a 0 ≡ step (base + a) j (fold (step (base + a)) 0 j)
-        turn true h = absurd (not_here room base a 0 lt lb ei l w out h)
+        turn true h = let e = eqb-true t (base + a) h in absurd (out (omega (arith, e), omega (arith, e)))
         turn false h = off a l w h
 
   pub rows_at : (room : List ℕ) (n s : ℕ) → Rows step n base room → base ≤ s → s < base + 96 → s < 65536 → get_or room (s - base) 0 ≡ fold (step s) 0 n
@@ -141,7 +128,7 @@ unfolding or_else
 then_then (Ok _) b c = refl
 then_then (Err f) b c = refl
 
-module _ (m t vs : List ℕ) (n off : ℕ) (kept : KeptBelow m t vs (ranges m) off) (broken : BrokenAt m t vs (ranges m) off) (small : n < 65536) where
+module _ (m t vs : List ℕ) (n off : ℕ) (kept : KeptBelow m t vs (ranges m) off) (small : n < 65536) where
   own_below : (k : ℕ) → k ≤ off → first_below (symbol_fault m t vs) k ≡ first_below (own_fault m t vs) k
   unfolding first_below symbol_fault
   own_below zero l = refl
@@ -151,28 +138,21 @@ module _ (m t vs : List ℕ) (n off : ℕ) (kept : KeptBelow m t vs (ranges m) o
   unfolding first_below symbol_fault
   up_to = rw (add-one off, own_below off (omega arith)) (then_then _ _ _)
 
-  -- a fault of 11 to 13, none at all, and one of 14
-  pub own-answers : {e : ℕ} {r : Outcome} {f : Answer} → e ≡ min n (off + 1) → r ≡ first_below (own_fault m t vs) e → r ≡ Err f
-      → r ≡ first_below (symbol_fault m t vs) n
-  own-answers {e} {r = r} ee er f = by (ltb off n) refl
+module _ (m t vs : List ℕ) (n off : ℕ) (first : FirstOff m t vs (ranges m) (Some off)) (small : n < 65536) where
+  -- a fault of 11 to 13, and what 14 says where they are kept
+  pub own-answers : {r : Outcome} {f : Answer} → off < n → r ≡ first_below (own_fault m t vs) (off + 1) → r ≡ Err f → r ≡ first_below (symbol_fault m t vs) n
+  own-answers l er f = block_fault (symbol_fault m t vs) n (off + 1) (first_fault _ er f ∙ sym (up_to m t vs n off first.1 small)) f (omega (arith, l))
+
+  pub range-answers : {r q : Outcome} → r ≡ first_below (own_fault m t vs) (off + 1) → r ≡ Clean → off < n → q ≡ first_below (test14 m t vs off) (ranges m)
+      → q ≡ first_below (symbol_fault m t vs) n
+  range-answers {q = q} er f l eq = by q eq
     where
-      by : (b : Bool) → ltb off n ≡ b → r ≡ first_below (symbol_fault m t vs) n
-      by true q =
-          let l = ltb-true off n q in
-          let z : e ≡ off + 1 = omega (arith, l) in
-          block_fault (symbol_fault m t vs) n (off + 1) (first_fault _ (rw z at er) f ∙ sym up_to) f (omega (arith, l))
-      by false q = let l = ltb-false off n q in let z : e ≡ n = omega (arith, l) in rw z at er ∙ sym (own_below n l)
-
-  pub all_keep : {e : ℕ} {r : Outcome} → e ≡ min n (off + 1) → r ≡ first_below (own_fault m t vs) e → r ≡ Clean → n ≤ off → Clean ≡ first_below (symbol_fault m t vs) n
-  all_keep {e} ee er f l = let z : e ≡ n = omega arith in sym f ∙ rw z at er ∙ sym (own_below n l)
-
-  pub range-answers : {e : ℕ} {r q : Outcome} → e ≡ min n (off + 1) → r ≡ first_below (own_fault m t vs) e → r ≡ Clean → off < n
-      → q ≡ first_below (test14 m t vs off) (ranges m) → q ≡ first_below (symbol_fault m t vs) n
-  range-answers {e} {q = q} ee er f l eq = by q eq
-    where
-      z : e ≡ off + 1
-      z = omega arith
-
       by : (q : Outcome) → q ≡ first_below (test14 m t vs off) (ranges m) → q ≡ first_below (symbol_fault m t vs) n
-      by (Ok _) h = absurd (broken (omega arith) (clean_all (test14 m t vs off) (ranges m) (sym h)))
-      by (Err x) h = block_fault (symbol_fault m t vs) n (off + 1) (first_clean (rw z at er) f h ∙ sym up_to) refl (omega arith)
+      by (Ok _) h = absurd (first.2 (omega arith) (clean_all (test14 m t vs off) (ranges m) (sym h)))
+      by (Err x) h = block_fault (symbol_fault m t vs) n (off + 1) (first_clean er f h ∙ sym (up_to m t vs n off first.1 small)) refl (omega arith)
+
+-- no symbol of the book breaks a range
+pub own_alone : (m t vs : List ℕ) (n : ℕ) (o : Option ℕ) → FirstOff m t vs (ranges m) o → n < 65536 → ((off : ℕ) → o ≡ Some off → n ≤ off)
+    → first_below (own_fault m t vs) n ≡ first_below (symbol_fault m t vs) n
+own_alone m t vs n None f small past = sym (own_below m t vs n 65536 f small n (omega arith))
+own_alone m t vs n (Some off) f small past = sym (own_below m t vs n off f.1 small n (past off refl))

@@ -4,5 +4,5 @@ use Rattle.tri.specs.Once.{Once}
 use Rattle.blocks.proofs.fault.Kinds as FaultKinds
 use Rattle.blocks.proofs.fault.Reads as FaultReads
 
-pub fault_once : Once 3 FaultKinds.ps FaultKinds.r FaultReads.Post
+pub fault_once : Once 2 FaultKinds.ps FaultKinds.r FaultReads.Post
 fault_once κs a x y s t p q = p ∙ sym q

@@ -1,14 +1,10 @@
 -- What the records of a section come to for each symbol of a block, and which default is a symbol's first that applies. Assumes nothing: these are definitions.
-use Rattle.std.specs.Prelude.{ℕ, suc, ◌+◌, ◌-◌, ◌%◌, ◌<◌, ◌≡◌, List, eqb, get_or}
+use Rattle.std.specs.Prelude.{ℕ, suc, ◌+◌, ◌-◌, ◌<◌, ◌≡◌, List, eqb, get_or}
 use Rattle.meaning.specs.Base.{Outcome}
 use Rattle.meaning.specs.Base.{pick, fold}
 use Rattle.meaning.specs.Book.{three_type}
 use Rattle.meaning.specs.Values.{default_from, condition_value}
 use Rattle.meaning.specs.Rules.{three_fault, other_fault}
-
--- how far behind base symbol s stands, round the 65,536 numbers: below 96 in the block from base on
-abbrev pub place_of : ℕ → ℕ → ℕ
-place_of s base = (s + 65536 - base) % 65536
 
 -- a room has, for each symbol of the block, what the first n records come to
 abbrev pub Rows : (ℕ → ℕ → ℕ → ℕ) → ℕ → ℕ → List ℕ → Type 0

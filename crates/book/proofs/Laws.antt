@@ -11,7 +11,7 @@ use borrow.Author.Tests.{leb-true, eqb-true, eqb-false, ltb-true, ltb-false, not
 use Rattle.std.specs.Prelude.{is_err}
 use Rattle.meaning.specs.Base.{Clean, Fault}
 use Rattle.meaning.specs.Base.{Outcome}
-use Rattle.meaning.specs.Base.{pick, half, part, when, first_below}
+use Rattle.meaning.specs.Base.{pick, half, when, first_below}
 use Rattle.meaning.specs.Book.{count, symbols, nodes, choices, members, type_of, choice_kind, mandatory_of, choice_prompt, member_due, first_member, member_count, member_symbol, choice_ok, new_member, member_ok, record_ok, record_at, section_fault, section_after, member_at, choice_members_fault, spelled_name, book_fault, name_of}
 use Rattle.meaning.proofs.First.{clean_all, when_iff, a_fault, no_err, if_err}
 use Rattle.members.specs.Old.{FirstOld}

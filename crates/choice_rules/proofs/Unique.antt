@@ -3,8 +3,6 @@ use mathlib.Core.Path.{sym, ◌∙◌}
 use Rattle.tri.specs.Once.{Once}
 use Rattle.choice_rules.proofs.member.Kinds as MemberKinds
 use Rattle.choice_rules.proofs.member.Reads as MemberReads
-use Rattle.choice_rules.proofs.counted.Kinds as CountedKinds
-use Rattle.choice_rules.proofs.counted.Reads as CountedReads
 use Rattle.choice_rules.proofs.choice_fault.Kinds as ChoiceFaultKinds
 use Rattle.choice_rules.proofs.choice_fault.Reads as ChoiceFaultReads
 use Rattle.choice_rules.proofs.modules_fault.Kinds as ModulesFaultKinds
@@ -13,10 +11,7 @@ use Rattle.choice_rules.proofs.modules_fault.Reads as ModulesFaultReads
 pub member_once : Once 1 MemberKinds.ps MemberKinds.r MemberReads.Post
 member_once κs a x y s t p q = p.0 ∙ sym q.0
 
-pub counted_once : Once 0 CountedKinds.ps CountedKinds.r CountedReads.Post
-counted_once κs a x y s t p q = p ∙ sym q
-
-pub choice_fault_once : Once 3 ChoiceFaultKinds.ps ChoiceFaultKinds.r ChoiceFaultReads.Post
+pub choice_fault_once : Once 2 ChoiceFaultKinds.ps ChoiceFaultKinds.r ChoiceFaultReads.Post
 choice_fault_once κs a x y s t p q = p ∙ sym q
 
 pub modules_fault_once : Once 2 ModulesFaultKinds.ps ModulesFaultKinds.r ModulesFaultReads.Post

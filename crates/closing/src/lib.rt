@@ -3,16 +3,50 @@
 // Total over any book and any sets; `closed_on` is what the walk calls, and whoever else has the sets of a path.
 #![tactic(auto)]
 
-ghost use Rattle.std.specs.Prelude.{◌≡◌, ◌<◌, ℕ, Bool};
+ghost use Rattle.std.specs.Prelude.{◌≡◌, ◌<◌, ℕ, Bool, leb};
 ghost use Rattle.meaning.specs.Book.{member_count, member_of};
 ghost use Rattle.meaning.specs.Rules.{at_least};
 ghost use Rattle.meaning.specs.Sets.{every, sat, node_sets};
 ghost use Rattle.meaning.specs.Clearance.{closed11, closed12, closed13, closed15, closed17, closed18, closed20, closed as closed_of, closed_on};
 ghost use Rattle.sets.specs.Work.{blank_of};
 ghost use Rattle.sets.specs.Paths.{Stays, all_sets};
+ghost use Rattle.closing.specs.Marks.{ReadsMark};
 ghost use Rattle.closing.specs.Picks.{Tells, TellsPick, Bounds};
 
+use fields::Unknown;
+use meaning::turns;
 use sets::{Path, Set};
+
+// What a clearance's leaf says of its place, each by the number that a finding has for it: a rule that is broken, or a select that is met.
+#[derive(Clone, Copy, PartialEq, Eq)]
+pub enum Mark {
+    Lower = 11,
+    Upper = 12,
+    Default = 13,
+    One = 15,
+    Mandatory = 17,
+    Modules = 18,
+    Met = 20,
+}
+
+impl TryFrom<u8> for Mark {
+    type Error = Unknown;
+
+    ghost try_from_gives = { ReadsMark };
+
+    fn try_from(byte: u8) -> Result<Self, Unknown> {
+        match byte {
+            11 => Ok(Mark::Lower),
+            12 => Ok(Mark::Upper),
+            13 => Ok(Mark::Default),
+            15 => Ok(Mark::One),
+            17 => Ok(Mark::Mandatory),
+            18 => Ok(Mark::Modules),
+            20 => Ok(Mark::Met),
+            _ => Err(Unknown(byte)),
+        }
+    }
+}
 
 // Whether a test holds under every pick of a value from a set.
 fn every<F: Fn(u8) -> bool>(set: Set, holds: F) -> bool
@@ -65,14 +99,13 @@ fn at_least<F: Fn(Set) -> u8>(m: &[u8], ys: &[u8], c: usize, k: u8, bound: F) ->
     requires callable { F.IsAlwaysCallable bound }
     ensures { (g : ℕ → ℕ) → Bounds (F.post bound) g → result ≡ at_least (λ j. g (sat ys.now (member_of m.now c j))) (member_count m.now c) k }
 {
-    // A loop and no `filter`: what its closure asks of a member's number stays open, and its count says no value of a member.
-    let n = fields::member_count(m, c);
-    let mut found = 0;
-    for j in 0..n {
-        let v = bound(sets::at(ys, choice_rules::member(m, c, j)));
-        found = choice_rules::counted(k <= v, found);
-    }
-    found
+    turns::count(
+        fields::member_count(m, c),
+        |j|
+            requires { (c < 65536) × (j < 65536) × F.IsAlwaysCallable bound }
+            ensures { (g : ℕ → ℕ) → Bounds (F.post bound) g → result ≡ leb k (g (sat ys.entry.now (member_of m.entry.now c j))) }
+        { k <= bound(sets::at(ys, choice_rules::member(m, c, j))) },
+    )
 }
 
 // 11 at s.
@@ -194,15 +227,15 @@ fn closed(path: &mut Path, q: usize, rule: u8, place: usize) -> bool
     ensures closed { result ≡ closed_of path.old.m.now q path.old.ys.now (all_sets path.old) rule place }
     ensures stays { Stays path.old path.new }
 {
-    match rule {
-        11 => lower_closed(path, place),
-        12 => upper_closed(path, place),
-        13 => default_closed(path, place),
-        15 => one_closed(path, place),
-        17 => mandatory_closed(path, place),
-        18 => modules_closed(path.m, path.ys, place),
-        20 => met(path, q),
-        _ => false,
+    match Mark::try_from(rule) {
+        Ok(Mark::Lower) => lower_closed(path, place),
+        Ok(Mark::Upper) => upper_closed(path, place),
+        Ok(Mark::Default) => default_closed(path, place),
+        Ok(Mark::One) => one_closed(path, place),
+        Ok(Mark::Mandatory) => mandatory_closed(path, place),
+        Ok(Mark::Modules) => modules_closed(path.m, path.ys, place),
+        Ok(Mark::Met) => met(path, q),
+        Err(_) => false,
     }
 }
 

@@ -1,13 +1,6 @@
 -- What stands in a room that is read into, of the bytes that the reader had.
 use Rattle.std.proofs.Common.{ℕ, List, ◌≡◌, ◌+◌, ◌<◌, ◌≤◌, ◌++◌, [], None, Some, IfSome, Option, length, take, drop, sym, subst, ap, ◌∙◌, eq-or-lt_of_le, inl, inr, take_at, take_all, take-add, append-nil}
 use Rattle.std.specs.Io.KnownBytes.{Consumes, IsAtEnd}
-use Rattle.std.proofs.KnownBytes.{Consumes-trans}
-
--- a read behind the front that was read before
-pub read_more : (a b c : Option (List ℕ)) (xs ys : List ℕ) (f n : ℕ) → Consumes a b (take f xs) → take f ys ≡ take f xs
-    → Consumes b c (take n (drop f ys)) → Consumes a c (take (f + n) ys)
-read_more a b c xs ys f n before front read =
-    subst (Consumes a c) (sym (take-add f n ys)) (Consumes-trans a b c (take f ys) (take n (drop f ys)) (subst (Consumes a b) (sym front) before) read)
 
 -- a room of k bytes that is full, or has all that there was, has the first k
 pub first_of : (xs bs ys : List ℕ) (k : ℕ) → xs ≡ bs ++ ys → length bs ≤ k → (length bs < k → ys ≡ []) → take k xs ≡ bs

@@ -4,12 +4,42 @@
 // what stands at a symbol, n where nothing does.
 #![tactic(auto)]
 
-ghost use Rattle.std.specs.Prelude.{◌≡◌, ◌<◌, ◌^◌};
+ghost use Rattle.std.specs.Prelude.{◌≡◌, ◌<◌, ◌^◌, IfSome, IfNone};
+ghost use Rattle.entries.specs.Numbers.{number_of, ReadsKind};
 ghost use Rattle.meaning.specs.Table.{entries as entries_of, kind_of, length_of, start_of, body_due, length_fits, byte_fits, entry_ok};
 ghost use Rattle.meaning.specs.Table.{contents_fault, entry_at, bodies_fault, table_fault, signed_of, read_of, entry_of, value_of};
 
 use meaning::{Outcome, Refusal, Value, refuse_if, turns};
 use tri::Tri;
+
+// An entry's kind, each by the number that a table has for it.
+#[derive(Clone, Copy, PartialEq, Eq)]
+enum Kind {
+    Three = 0,
+    Text = 1,
+    Int = 2,
+    Hex = 3,
+}
+
+// A byte that no kind has for its number.
+#[derive(Clone, Copy, PartialEq, Eq)]
+struct Unknown(u8);
+
+impl TryFrom<u8> for Kind {
+    type Error = Unknown;
+
+    ghost try_from_gives = { ReadsKind };
+
+    fn try_from(byte: u8) -> Result<Self, Unknown> {
+        match byte {
+            0 => Ok(Kind::Three),
+            1 => Ok(Kind::Text),
+            2 => Ok(Kind::Int),
+            3 => Ok(Kind::Hex),
+            _ => Err(Unknown(byte)),
+        }
+    }
+}
 
 // How many entries a table says it has.
 pub fn entries(t: &[u8]) -> usize
@@ -18,12 +48,13 @@ pub fn entries(t: &[u8]) -> usize
     raw::half(t, 2)
 }
 
-// An entry's kind: 0 three-valued, 1 string, 2 int, 3 hex.
-fn kind(t: &[u8], s: usize) -> u8
+// An entry's kind; none where its byte is above the last kind's number.
+fn kind_of(t: &[u8], s: usize) -> Option<Kind>
     requires { s < 2 ^ 32 }
-    ensures { result ≡ kind_of t.now s }
+    ensures some { IfSome result (λ kind. number_of kind ≡ kind_of t.now s) }
+    ensures none { IfNone result (3 < kind_of t.now s) }
 {
-    raw::byte(t, 4 + 4 * s)
+    Kind::try_from(raw::byte(t, 4 + 4 * s)).ok()
 }
 
 // How long an entry's body is.
@@ -31,7 +62,7 @@ fn length(t: &[u8], s: usize) -> usize
     requires { s < 2 ^ 32 }
     ensures { (result ≡ length_of t.now s) × (result < 256) }
 {
-    raw::wide(raw::byte(t, 4 + 4 * s + 1))
+    usize::from(raw::byte(t, 4 + 4 * s + 1))
 }
 
 // Where an entry's body starts.
@@ -54,39 +85,40 @@ fn body_due(t: &[u8], n: usize, s: usize) -> usize
     start(t, s - 1) + length(t, s - 1)
 }
 
-// Whether a body of kind k may be l bytes long.
+// Whether a body of a kind may be l bytes long.
 #[tactic(auto, unfolding(meaning::specs::Table::length_fits, meaning::specs::Base::pick))]
-fn length_fits(k: u8, l: usize) -> bool
-    ensures { result ≡ length_fits k l }
+fn length_fits(kind: Kind, l: usize) -> bool
+    ensures { result ≡ length_fits (number_of kind) l }
 {
-    match k {
-        0 => l == 1,
-        1 => l <= 64,
-        2..=3 => l == 4,
-        _ => false,
+    match kind {
+        Kind::Three => l == 1,
+        Kind::Text => l <= 64,
+        Kind::Int | Kind::Hex => l == 4,
     }
 }
 
-// Whether a body of kind k may begin with byte b.
-fn byte_fits(k: u8, b: u8) -> bool
-    ensures { result ≡ byte_fits k b }
+// Whether a body of a kind may begin with byte b.
+fn byte_fits(kind: Kind, b: u8) -> bool
+    ensures { result ≡ byte_fits (number_of kind) b }
 {
-    (k != 0) | (b <= 2)
+    (kind != Kind::Three) | (b <= 2)
 }
 
 // Whether entry s, of n, is well formed.
-#[tactic(auto, unfolding(meaning::specs::Table::entry_ok))]
+#[tactic(auto, unfolding(meaning::specs::Table::entry_ok, meaning::specs::Table::length_fits, meaning::specs::Base::pick))]
 fn entry_ok(t: &[u8], n: usize, s: usize) -> bool
     requires { (n < 2 ^ 32) × (s < 2 ^ 32) }
     ensures { result ≡ entry_ok t.now n s }
 {
-    let k = kind(t, s);
+    let Some(kind) = kind_of(t, s) else {
+        return false;
+    };
     let l = length(t, s);
     let at = start(t, s);
-    length_fits(k, l)
+    length_fits(kind, l)
         & (at == body_due(t, n, s))
         & (at + l <= t.len())
-        & byte_fits(k, raw::byte(t, at))
+        & byte_fits(kind, raw::byte(t, at))
 }
 
 // A word as a signed number in two's complement.
@@ -109,14 +141,13 @@ pub fn value(t: &[u8], s: usize) -> Value
     if entries(t) <= s {
         return Value::Three(0);
     }
-    let k = kind(t, s);
     let at = start(t, s);
-    match k {
-        0 => Value::Three(Tri::from(raw::byte(t, at)).v),
-        1 => Value::Text(at, length(t, s)),
-        2 => Value::Int(signed(raw::word(t, at))),
-        3 => Value::Hex(raw::word(t, at)),
-        _ => Value::Three(0),
+    match kind_of(t, s) {
+        Some(Kind::Three) => Value::Three(Tri::from(raw::byte(t, at)).v),
+        Some(Kind::Text) => Value::Text(at, length(t, s)),
+        Some(Kind::Int) => Value::Int(signed(raw::word(t, at))),
+        Some(Kind::Hex) => Value::Hex(raw::word(t, at)),
+        None => Value::Three(0),
     }
 }
 
@@ -138,9 +169,8 @@ pub fn three(t: &[u8], s: usize) -> Tri
     if entries(t) <= s {
         return Tri::N;
     }
-    let k = kind(t, s);
-    match k {
-        0 => Tri::from(raw::byte(t, start(t, s))),
+    match kind_of(t, s) {
+        Some(Kind::Three) => Tri::from(raw::byte(t, start(t, s))),
         _ => Tri::N,
     }
 }

@@ -1,6 +1,15 @@
 -- From one input no second answer meets what a public function of this crate ensures: of the contracts themselves, as Rattle reads them. Assumes nothing.
 use mathlib.Core.Path.{sym, ◌∙◌}
 use Rattle.tri.specs.Once.{Once, OnceIn}
+use Rattle.fields.proofs.Numbered.{same_op, same_type, same_node_op, same_symbol_type}
+use Rattle.fields.proofs.OpTryFromU8.try_from.Kinds as OpTryFromKinds
+use Rattle.fields.proofs.OpTryFromU8.try_from.Reads as OpTryFromReads
+use Rattle.fields.proofs.SymbolTypeTryFromU8.try_from.Kinds as SymbolTypeTryFromKinds
+use Rattle.fields.proofs.SymbolTypeTryFromU8.try_from.Reads as SymbolTypeTryFromReads
+use Rattle.fields.proofs.node_op.Kinds as NodeOpKinds
+use Rattle.fields.proofs.node_op.Reads as NodeOpReads
+use Rattle.fields.proofs.symbol_type.Kinds as SymbolTypeKinds
+use Rattle.fields.proofs.symbol_type.Reads as SymbolTypeReads
 use Rattle.fields.proofs.total.Kinds as TotalKinds
 use Rattle.fields.proofs.total.Reads as TotalReads
 use Rattle.fields.proofs.modules.Kinds as ModulesKinds
@@ -236,3 +245,15 @@ name_from_once κs a x y s t p q = p.0 ∙ sym q.0
 
 pub spelled_name_once : OnceIn 1 SpelledNameKinds.ps SpelledNameKinds.r SpelledNameReads.Post (λ κs x s. x.now)
 spelled_name_once κs a x y s t p q = p ∙ sym q
+
+pub op_try_from_once : Once 0 OpTryFromKinds.ps OpTryFromKinds.r OpTryFromReads.Post
+op_try_from_once κs a x y s t p q = same_op _ x y p q
+
+pub symbol_type_try_from_once : Once 0 SymbolTypeTryFromKinds.ps SymbolTypeTryFromKinds.r SymbolTypeTryFromReads.Post
+symbol_type_try_from_once κs a x y s t p q = same_type _ x y p q
+
+pub node_op_once : Once 1 NodeOpKinds.ps NodeOpKinds.r NodeOpReads.Post
+node_op_once κs a x y s t p q = same_node_op _ x y p.0 p.1 q.0 q.1
+
+pub symbol_type_once : Once 1 SymbolTypeKinds.ps SymbolTypeKinds.r SymbolTypeReads.Post
+symbol_type_once κs a x y s t p q = same_symbol_type _ x y p.0 p.1 q.0 q.1

@@ -4,11 +4,80 @@
 // overflow: every number that a book holds is below 2^16.
 #![tactic(auto)]
 
-ghost use Rattle.std.specs.Prelude.{◌≡◌, ◌<◌, ◌^◌, length};
+ghost use Rattle.std.specs.Prelude.{◌≡◌, ◌<◌, ◌^◌, length, IfSome, IfNone};
+ghost use Rattle.fields.specs.Numbers.{number_of_op, number_of_type, ReadsOp, ReadsType};
 ghost use Rattle.meaning.specs.Book.{start as start_of, count as count_of, width as width_of, byte_in, half_in};
 ghost use Rattle.meaning.specs.Book.{total as total_of, modules_of, text_start, name_start, spelled_name, three_type, is_leaf};
 ghost use Rattle.meaning.specs.Book.{symbols as symbols_of, nodes as nodes_of, defaults as defaults_of, selects as selects_of, ranges as ranges_of, choices as choices_of, members as members_of, texts as texts_of};
 ghost use Rattle.meaning.specs.Book.{type_of, name_length, name_offset, prompt_of, depend_of, op_of, zero_of, left_of, right_of, default_symbol, default_value, default_condition, selector_of, target_of, condition_of, range_symbol, low_of, high_of, range_condition, choice_kind, mandatory_of, choice_prompt, first_member, member_count, member_symbol};
+
+// What a node is, each by the number that a book has for it: up to Hex a leaf.
+#[derive(Clone, Copy, PartialEq, Eq)]
+pub enum Op {
+    Constant = 0,
+    Symbol = 1,
+    Text = 2,
+    Int = 3,
+    Hex = 4,
+    Not = 5,
+    And = 6,
+    Or = 7,
+    Equal = 8,
+    Unequal = 9,
+}
+
+// A symbol's type, each by the number that a book has for it.
+#[derive(Clone, Copy, PartialEq, Eq)]
+pub enum SymbolType {
+    Boolean = 0,
+    Tristate = 1,
+    Text = 2,
+    Int = 3,
+    Hex = 4,
+}
+
+// A byte that stands for none of the values that are asked for.
+#[derive(Clone, Copy, PartialEq, Eq)]
+pub struct Unknown(pub u8);
+
+impl TryFrom<u8> for Op {
+    type Error = Unknown;
+
+    ghost try_from_gives = { ReadsOp };
+
+    fn try_from(byte: u8) -> Result<Self, Unknown> {
+        match byte {
+            0 => Ok(Op::Constant),
+            1 => Ok(Op::Symbol),
+            2 => Ok(Op::Text),
+            3 => Ok(Op::Int),
+            4 => Ok(Op::Hex),
+            5 => Ok(Op::Not),
+            6 => Ok(Op::And),
+            7 => Ok(Op::Or),
+            8 => Ok(Op::Equal),
+            9 => Ok(Op::Unequal),
+            _ => Err(Unknown(byte)),
+        }
+    }
+}
+
+impl TryFrom<u8> for SymbolType {
+    type Error = Unknown;
+
+    ghost try_from_gives = { ReadsType };
+
+    fn try_from(byte: u8) -> Result<Self, Unknown> {
+        match byte {
+            0 => Ok(SymbolType::Boolean),
+            1 => Ok(SymbolType::Tristate),
+            2 => Ok(SymbolType::Text),
+            3 => Ok(SymbolType::Int),
+            4 => Ok(SymbolType::Hex),
+            _ => Err(Unknown(byte)),
+        }
+    }
+}
 
 const WIDTHS: [usize; 9] = [0, 8, 6, 6, 6, 8, 8, 2, 1];
 
@@ -129,12 +198,21 @@ pub fn type_of(m: &[u8], i: usize) -> u8
     byte_in(m, 1, 8, i, 0)
 }
 
+// A symbol's type; none where its byte is above the last type's number.
+pub fn symbol_type(m: &[u8], i: usize) -> Option<SymbolType>
+    requires { i < 2 ^ 32 }
+    ensures some { IfSome result (λ kind. number_of_type kind ≡ type_of m.now i) }
+    ensures none { IfNone result (4 < type_of m.now i) }
+{
+    SymbolType::try_from(type_of(m, i)).ok()
+}
+
 // How long a symbol's name is.
 pub fn name_length(m: &[u8], i: usize) -> u8
     requires { i < 2 ^ 32 }
     ensures { result ≡ name_length m.now i }
 {
-    byte_in(m, 1, 8, i, 1)
+    name_length_from(m, start(m, 1), i)
 }
 
 // Where a symbol's name stands in the texts.
@@ -142,7 +220,7 @@ pub fn name_offset(m: &[u8], i: usize) -> usize
     requires { i < 2 ^ 32 }
     ensures { (result ≡ name_offset m.now i) × (result < 65536) }
 {
-    half_in(m, 1, 8, i, 2)
+    name_offset_from(m, start(m, 1), i)
 }
 
 // How long a symbol's name is, where the symbols' start is at hand.
@@ -177,12 +255,21 @@ pub fn depend_of(m: &[u8], i: usize) -> usize
     half_in(m, 1, 8, i, 6)
 }
 
-// A node's op.
+// A node's op, as its number.
 pub fn op_of(m: &[u8], i: usize) -> u8
     requires { i < 2 ^ 32 }
     ensures { result ≡ op_of m.now i }
 {
     byte_in(m, 2, 6, i, 0)
+}
+
+// A node's op; none where its byte is above the last op's number.
+pub fn node_op(m: &[u8], i: usize) -> Option<Op>
+    requires { i < 2 ^ 32 }
+    ensures some { IfSome result (λ op. number_of_op op ≡ op_of m.now i) }
+    ensures none { IfNone result (9 < op_of m.now i) }
+{
+    Op::try_from(op_of(m, i)).ok()
 }
 
 // A node's byte that must be zero.
@@ -214,7 +301,7 @@ pub fn default_symbol(m: &[u8], i: usize) -> usize
     requires { i < 2 ^ 32 }
     ensures { (result ≡ default_symbol m.now i) × (result < 65536) }
 {
-    half_in(m, 3, 6, i, 0)
+    default_symbol_from(m, start(m, 3), i)
 }
 
 // The symbol that a default is on, where the defaults' start is at hand.
@@ -254,7 +341,7 @@ pub fn target_of(m: &[u8], i: usize) -> usize
     requires { i < 2 ^ 32 }
     ensures { (result ≡ target_of m.now i) × (result < 65536) }
 {
-    half_in(m, 4, 6, i, 2)
+    target_from(m, start(m, 4), i)
 }
 
 // A select's target, where the selects' start is at hand.
@@ -350,7 +437,7 @@ pub fn member_symbol(m: &[u8], i: usize) -> usize
     requires { i < 2 ^ 32 }
     ensures { (result ≡ member_symbol m.now i) × (result < 65536) }
 {
-    half_in(m, 7, 2, i, 0)
+    member_symbol_from(m, start(m, 7), i)
 }
 
 // The symbol of a member record, where the members' start is at hand.
@@ -398,7 +485,7 @@ pub fn spelled_name(m: &[u8], s: usize) -> &[u8]
     requires { s < 2 ^ 32 }
     ensures { result.now ≡ spelled_name m.now s }
 {
-    raw::part(m, name_start(m, s), raw::wide(name_length(m, s)))
+    name_from(m, start(m, 1), text_start(m), s)
 }
 
 // The same, where the symbols' start and the texts' are at hand.
@@ -406,6 +493,6 @@ pub fn name_from(m: &[u8], symbols: usize, texts: usize, s: usize) -> &[u8]
     requires { (symbols ≡ start_of m.now 1) × (symbols < 65536) × (texts ≡ text_start m.now) × (texts < 65536) × (s < 2 ^ 32) }
     ensures { (result.now ≡ spelled_name m.now s) × (length result.now < 256) }
 {
-    let n = raw::wide(name_length_from(m, symbols, s));
+    let n = usize::from(name_length_from(m, symbols, s));
     raw::part(m, texts + name_offset_from(m, symbols, s), n)
 }

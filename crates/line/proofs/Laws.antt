@@ -1,25 +1,23 @@
 -- One text written behind another, how long a name can be, and the line from its parts. Assumes nothing.
-use mathlib.Core.Path.{◌≡◌, refl, sym, ◌∙◌, ap}
-use mathlib.Core.Bool.{Bool, true, false, ◌&&◌, ◌||◌}
-use lib.Dec.{eqb, leb, ltb}
+use mathlib.Core.Path.{◌≡◌, sym, ◌∙◌, ap}
+use mathlib.Core.Bool.{Bool, true, false}
+use lib.Dec.{ltb}
 use mathlib.Core.List.{List, [], ◌∷◌, ◌++◌, append_assoc}
 use Prim.Native.Nat.{ℕ, ◌+◌, ◌*◌, ◌≤◌, ◌<◌}
 use native.Mathlib.Omega.{arith}
-use lib.ListN.{length, get_or, set, take, drop, length-set, length-append, length-take, length-drop, drop_of_length-le}
-use lib.Seq.{take_all, length-take-le, take_at, drop_at, drop-drop, paste, length-paste, paste-suc}
-use native.Mathlib.Numerals.{add-one}
+use lib.ListN.{length, get_or, take, drop, length-append, length-take, length-drop}
+use lib.Seq.{length-take-le, take_at, drop_at, drop-drop}
 use borrow.Author.Tests.{lt-ltb, le-ltb}
 use Rattle.meaning.specs.declared.Answer.{Answer}
 use Rattle.meaning.specs.Base.{Outcome}
 use Rattle.std.specs.Prelude.{Ok, Err}
-use Rattle.meaning.specs.Base.{Fault}
 use Rattle.meaning.specs.Base.{pick, half, part, if_clean, answer_of}
 use Rattle.meaning.specs.Book.{name_of, byte_in, book_fault, symbols, start, width, spelled_name, name_length, name_start}
 use Rattle.meaning.specs.Rules.{node_work}
-use Rattle.meaning.specs.Program.{model_length, model_part, table_part, offender, or_dash, decimal, program_outcome, line_with, line_of}
-use Rattle.meaning.specs.Spell.{digits}
+use Rattle.meaning.specs.Program.{model_length, model_part, table_part, offender, or_dash, program_outcome, line_with, line_of}
 use Rattle.rules.specs.Checked.{Checked}
-use Rattle.line.specs.Written.{Written, Lined}
+use Rattle.line.specs.declared.Text.{Text}
+use Rattle.line.specs.Written.{Written, Pushed, Lined}
 use Rattle.line.specs.Numbers.{three_numbers}
 
 -- THE SPLIT
@@ -30,9 +28,6 @@ short_model i lt = rw (lt-ltb (length i) 2 lt)
 pub long_model : (i : List ℕ) {r : ℕ} → 2 ≤ length i → r ≡ half i 0 → r ≡ model_length i
 unfolding model_length
 long_model i le e = rw (le-ltb (length i) 2 le) e
-
-pub rest_past : (s : List ℕ) (at : ℕ) → length s ≤ at → [] ≡ drop at s
-rest_past s at h = sym (drop_of_length-le s h)
 
 -- A NAME is no longer than a byte counts
 either_short : (o : Outcome) (q : Bool) (l : List ℕ) → length l < 256 → length (if_clean o (pick q l []) []) < 256
@@ -53,31 +48,7 @@ module _ (m : List ℕ) (small : (i : ℕ) → get_or m i 0 < 256) where
   unfolding name_of
   short_name s e = (e, rw e (either_short (book_fault m) (ltb s (symbols m)) (spelled_name m s) (spelled_short s)))
 
--- THE OFFENDER, by the tests on the number
-module _ (n p s : ℕ) where
-  pub first-place : (leb 10 n && leb n 14) || eqb n 18 ≡ true → p ≡ offender (Fault n p s)
-  first-place h = rw h
-
-  pub second-place : (leb 10 n && leb n 14) || eqb n 18 ≡ false → eqb n 15 || eqb n 16 ≡ true → s ≡ offender (Fault n p s)
-  second-place h k = rw (h, k)
-
-  pub no_place : (leb 10 n && leb n 14) || eqb n 18 ≡ false → eqb n 15 || eqb n 16 ≡ false → 65535 ≡ offender (Fault n p s)
-  no_place h k = rw (h, k)
-
--- WRITING. A turn of the loop that copies s, and its end
-pub copied_more : (o : List ℕ) (at : ℕ) (s : List ℕ) {d : List ℕ} (i : ℕ) → at + length s ≤ length o → i < length s → length d ≡ length o
-    → d ≡ paste o at s i
-    → (i + 1 ≤ length s) × (length (set d (at + i) (get_or s i 0)) ≡ length o) × (set d (at + i) (get_or s i 0) ≡ paste o at s (i + 1))
-copied_more o at s {d} i fits lt long e =
-    (omega arith, length-set d (at + i) (get_or s i 0) ∙ long, rw (e, add-one i) (paste-suc o at s i 0 (omega arith) lt))
-
-module _ (o : List ℕ) (at : ℕ) (s : List ℕ) {d : List ℕ} (fits : at + length s ≤ length o) where
-  pub copied : (i : ℕ) → i ≤ length s → length s ≤ i → d ≡ paste o at s i → Written o at s (at + i) d
-  copied i le ge e =
-      let q : i ≡ length s = omega arith in
-      let all : take i s ≡ s = take_all i s ge in
-      record { ends = omega arith; holds = e ∙ rw all; long = ap length e ∙ length-paste o at s i (omega arith) le }
-
+-- WRITING
 -- one text behind another
 module _ (o : List ℕ) (at : ℕ) {x : List ℕ} {r : ℕ} {a : List ℕ} (le : r ≤ length o) (w : Written o at x r a) where
   front_length : length (take at o ++ x) ≡ r
@@ -98,45 +69,10 @@ module _ (o : List ℕ) (at : ℕ) {x : List ℕ} {r : ℕ} {a : List ℕ} (le :
         long = v.long ∙ w.long;
       }
 
--- THE PARTS OF THE LINE. A number and a space
-pub number_written : (o : List ℕ) (at : ℕ) (v : ℕ) {d : List ℕ} {e r : ℕ} {a b : List ℕ} → at + 13 ≤ length o
-    → (d ≡ digits 10 12 v []) × (length d ≤ 12)
-    → Written o at d e a
-    → Written a e (32 ∷ []) r b
-    → Written o at (decimal v ++ (32 ∷ [])) r b × (r ≤ at + 13)
-unfolding decimal
-number_written o at v fits s w x =
-    (rw s.0 at (behind o at (omega (arith, fits, s.1, w.ends)) w (32 ∷ []) x), omega (arith, s.1, w.ends, x.ends))
-
--- three numbers
-pub numbers_written : (o : List ℕ) (a : Answer) {i j r : ℕ} {b c d : List ℕ} → 39 ≤ length o
-    → Written o 0 (decimal a.number ++ (32 ∷ [])) i b × (i ≤ 0 + 13)
-    → Written b i (decimal a.place ++ (32 ∷ [])) j c × (j ≤ i + 13)
-    → Written c j (decimal a.second ++ (32 ∷ [])) r d × (r ≤ j + 13)
-    → Written o 0 (three_numbers a) r d × (r ≤ 39)
-numbers_written o a fits x y z =
-    let two = behind o 0 (omega (arith, fits, x.1)) x.0 (decimal a.place ++ (32 ∷ [])) y.0 in
-    let three = behind o 0 (omega (arith, fits, x.1, y.1)) two (decimal a.second ++ (32 ∷ [])) z.0 in
-    (three, omega (arith, x.1, y.1, z.1))
-
--- a name or a dash, and a newline
-no_name : (l : List ℕ) → length l ≡ 0 → or_dash l ≡ 45 ∷ []
-no_name [] e = refl
-no_name (x ∷ l) e = absurd (omega arith)
-
-a_name : (l : List ℕ) → (length l ≡ 0 → ⊥) → or_dash l ≡ l
-a_name [] e = absurd (e refl)
-a_name (x ∷ l) e = refl
-
-pub dash_written : (o : List ℕ) (at : ℕ) (l : List ℕ) {r : ℕ} {b : List ℕ} → length l ≡ 0 → Written o at (45 ∷ 10 ∷ []) r b
-    → Written o at (or_dash l ++ (10 ∷ [])) r b
-dash_written o at l e w = rw (no_name l e) w
-
-pub name_written : (o : List ℕ) (at : ℕ) (l : List ℕ) {e r : ℕ} {a b : List ℕ} → at + length l + 2 ≤ length o → (length l ≡ 0 → ⊥)
-    → Written o at l e a
-    → Written a e (10 ∷ []) r b
-    → Written o at (or_dash l ++ (10 ∷ [])) r b
-name_written o at l fits some w x = rw (a_name l some) (behind o at (omega (arith, fits, w.ends)) w (10 ∷ []) x)
+-- one text pushed behind another
+pub pushed_on : {a b c : Text} {x y : List ℕ} → b.len ≤ length a.room.now → Pushed x a b → Pushed y b c → Pushed (x ++ y) a c
+pushed_on {a = a} {y = y} le p q =
+    record { written = behind a.room.now a.len le p.written y q.written; lent = q.lent ∙ p.lent }
 
 -- THE LINE. A text written at the front ends inside
 inside : (o : List ℕ) {t : List ℕ} {r : ℕ} {a : List ℕ} → Written o 0 t r a → r ≤ length o
@@ -170,13 +106,13 @@ module _ (i w o : List ℕ) {m : ℕ} {model table : List ℕ} (em : m ≡ model
       unfolding line_of
       line_is = text_is a (or_dash l) ∙ rw (ea, el, es, model_is, outcome_is)
 
-      pub lined : {at r : ℕ} {p q : List ℕ} → at ≤ length o → Written o 0 (three_numbers a) at p
-          → Written p at (or_dash l ++ (10 ∷ [])) r q → Lined i w o r work q
-      lined le x y =
+      pub lined : {at r : ℕ} {p q d : List ℕ} → at ≤ length o → Written o 0 (three_numbers a) at p
+          → Written p at (or_dash l ++ (10 ∷ [])) r q → d ≡ q → Lined i w o r work d
+      lined le x y same =
           let z = behind o 0 le x (or_dash l ++ (10 ∷ [])) y in
           record {
             ends = z.ends ∙ rw line_is (omega arith);
-            holds = z.holds ∙ rw line_is;
+            holds = same ∙ z.holds ∙ rw line_is;
             fits = inside o z;
             works = works_is;
           }

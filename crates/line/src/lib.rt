@@ -6,7 +6,7 @@
 ghost use Rattle.std.specs.Prelude.{◌≡◌, ◌+◌, ◌<◌, ◌≤◌, ◌∷◌, [], ◌++◌, length, drop};
 ghost use Rattle.meaning.specs.Book.{name_of};
 ghost use Rattle.meaning.specs.Program.{model_length, offender, or_dash, decimal};
-ghost use Rattle.line.specs.Written.{Written, Lined};
+ghost use Rattle.line.specs.Written.{Pushed, Lined};
 ghost use Rattle.line.specs.Numbers.{three_numbers};
 
 use meaning::{Answer, Outcome, Refusal};
@@ -55,45 +55,55 @@ fn name_of(model: &[u8], index: usize) -> &[u8]
     book::name(model, index)
 }
 
-// Writes s into out from `at` on, and hands back where it ends.
-fn append(out: &mut [u8], at: usize, s: &[u8]) -> usize
-    requires { at + length s.now ≤ length out.old }
-    ensures { Written out.old at s.now result out.new }
-{
-    let end = at + s.len();
-    out[at..end].copy_from_slice(s);
-    end
+// A text in lent bytes: the first len of the room.
+#[derive(Drop)]
+struct Text<'a> {
+    room: &'a mut [u8],
+    len: usize,
 }
 
-// Writes v in decimal and a space.
-fn number(out: &mut [u8], at: usize, v: u16) -> usize
-    requires { at + 13 ≤ length out.old }
-    ensures { Written out.old at (decimal v ++ (32 ∷ [])) result out.new × (result ≤ at + 13) }
-{
-    let end = append(out, at, spell::decimal(v as u32).text());
-    append(out, end, b" ")
-}
-
-// Writes the three numbers at the front, a space behind each.
-fn numbers(out: &mut [u8], a: Answer) -> usize
-    requires { 39 ≤ length out.old }
-    ensures { Written out.old 0 (three_numbers a) result out.new × (result ≤ 39) }
-{
-    let place = number(out, 0, a.number);
-    let second = number(out, place, a.place);
-    number(out, second, a.second)
-}
-
-// Writes a name, or a dash for none, and a newline.
-fn ending(out: &mut [u8], at: usize, name: &[u8]) -> usize
-    requires { at + length name.now + 2 ≤ length out.old }
-    ensures { Written out.old at (or_dash name.now ++ (10 ∷ [])) result out.new }
-{
-    if name.is_empty() {
-        return append(out, at, b"-\n");
+impl Text<'_> {
+    // Writes s behind what stands there.
+    fn push(&mut self, s: &[u8])
+        requires { self.old.len + length s.now ≤ length self.old.room.now }
+        ensures { Pushed s.now self.old self.new }
+    {
+        let end = self.len + s.len();
+        self.room[self.len..end].copy_from_slice(s);
+        self.len = end;
     }
-    let end = append(out, at, name);
-    append(out, end, b"\n")
+
+    // Writes v in decimal and a space.
+    fn number(&mut self, v: u16)
+        requires { self.old.len + 13 ≤ length self.old.room.now }
+        ensures { Pushed (decimal v ++ (32 ∷ [])) self.old self.new × (self.new.len ≤ self.old.len + 13) }
+    {
+        self.push(spell::decimal(u32::from(v)).text());
+        self.push(b" ");
+    }
+
+    // Writes the three numbers, a space behind each.
+    fn numbers(&mut self, a: Answer)
+        requires { self.old.len + 39 ≤ length self.old.room.now }
+        ensures { Pushed (three_numbers a) self.old self.new × (self.new.len ≤ self.old.len + 39) }
+    {
+        self.number(a.number);
+        self.number(a.place);
+        self.number(a.second);
+    }
+
+    // Writes a name, or a dash for none, and a newline.
+    fn ending(&mut self, name: &[u8])
+        requires { self.old.len + length name.now + 2 ≤ length self.old.room.now }
+        ensures { Pushed (or_dash name.now ++ (10 ∷ [])) self.old self.new }
+    {
+        if name.is_empty() {
+            self.push(b"-");
+        } else {
+            self.push(name);
+        }
+        self.push(b"\n");
+    }
 }
 
 // The program's line for a whole input, at the front of out; its length is handed back.
@@ -105,6 +115,11 @@ pub fn line(input: &[u8], work: &mut [u8], out: &mut [u8]) -> usize
     let model = raw::part(input, 0, m);
     let outcome = rules::check(model, rest(input, m), work);
     let name = name_of(model, offender_of(&outcome));
-    let at = numbers(out, Answer::from(outcome));
-    ending(out, at, name)
+    let mut text = Text {
+        room: &mut *out,
+        len: 0,
+    };
+    text.numbers(Answer::from(outcome));
+    text.ending(name);
+    text.len
 }

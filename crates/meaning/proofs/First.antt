@@ -6,10 +6,9 @@ use mathlib.Core.Logic.{◌⊎◌, inl, inr, ◌↔◌, ⊎_elim}
 use native.Mathlib.Nat.{not-suc-le-zero, eq-or-lt_of_le, le_of_suc-le-suc}
 use native.Mathlib.Omega.{arith}
 use native.Mathlib.Numerals.{add-one}
-use Rattle.std.specs.Bool.{then_some}
-use Rattle.std.specs.Prelude.{Some, None, Ok, Err, is_err}
+use Rattle.std.specs.Prelude.{Ok, Err, is_err}
 use Rattle.meaning.specs.declared.Answer.{Answer}
-use Rattle.meaning.specs.Base.{Outcome, Clean, Fault, pick, if_clean, when, or_else, first_below}
+use Rattle.meaning.specs.Base.{Outcome, Clean, Fault, if_clean, when, or_else, first_below}
 
 abbrev pub IsClean : Outcome → Type 0
 IsClean a = a ≡ Clean
@@ -158,20 +157,6 @@ first_fault {r = r} {a = a} {f = f} b e is = e ∙ sym (or_else_fault a b (λ z.
 
 pub first_clean : {r a q b : Outcome} → r ≡ a → r ≡ Clean → q ≡ b → q ≡ or_else a b
 first_clean {a = a} {b = b} e f g = g ∙ sym (or_else_clean a b (sym e ∙ f))
-
--- a fault under a test
-pub when_true : (b : Bool) (a : Outcome) → b ≡ true → a ≡ when b a
-unfolding when
-when_true b a e = rw e
-
-pub when_false : (b : Bool) (a : Outcome) → b ≡ false → Clean ≡ when b a
-unfolding when
-when_false b a e = rw e
-
--- a value where a test holds, as the library and as the definitions have it
-pub then_picked : {A : Type 0} (b : Bool) (a : A) → then_some b a ≡ pick b (Some a) None
-then_picked true a = refl
-then_picked false a = refl
 
 -- what the library's test of an outcome says
 pub no_err : (o : Outcome) → is_err o ≡ false → IsClean o

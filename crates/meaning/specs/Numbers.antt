@@ -3,25 +3,25 @@ use Rattle.std.specs.Prelude.{ℕ}
 use Rattle.meaning.specs.declared.Refusal.{Refusal}
 use Rattle.meaning.specs.declared.Refusal.TheVariants.{Length, Section, Record, ModulesSymbol, Contents, Entry, NodeRoom, SymbolRoom, Typed, Lower, Upper, Default, Range, One, Kind, Mandatory, Modules, Head, Tree, Leaf, Met}
 
-abbrev pub number_of : Refusal → ℕ
-number_of Length = 1
-number_of Section = 2
-number_of Record = 3
-number_of ModulesSymbol = 4
-number_of Contents = 5
-number_of Entry = 6
-number_of NodeRoom = 7
-number_of SymbolRoom = 8
-number_of Typed = 10
-number_of Lower = 11
-number_of Upper = 12
-number_of Default = 13
-number_of Range = 14
-number_of One = 15
-number_of Kind = 16
-number_of Mandatory = 17
-number_of Modules = 18
-number_of Head = 21
-number_of Tree = 22
-number_of Leaf = 23
-number_of Met = 24
+abbrev pub refusal_number : Refusal → ℕ
+refusal_number Length = 1
+refusal_number Section = 2
+refusal_number Record = 3
+refusal_number ModulesSymbol = 4
+refusal_number Contents = 5
+refusal_number Entry = 6
+refusal_number NodeRoom = 7
+refusal_number SymbolRoom = 8
+refusal_number Typed = 10
+refusal_number Lower = 11
+refusal_number Upper = 12
+refusal_number Default = 13
+refusal_number Range = 14
+refusal_number One = 15
+refusal_number Kind = 16
+refusal_number Mandatory = 17
+refusal_number Modules = 18
+refusal_number Head = 21
+refusal_number Tree = 22
+refusal_number Leaf = 23
+refusal_number Met = 24

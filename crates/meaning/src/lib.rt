@@ -6,7 +6,7 @@
 ghost use Rattle.std.specs.Prelude.{◌≡◌, ◌<◌};
 ghost use Rattle.meaning.specs.declared.Answer.{Answer};
 ghost use Rattle.meaning.specs.Base.{Fault as fault_of, when, answer_of, packed};
-ghost use Rattle.meaning.specs.Numbers.{number_of};
+ghost use Rattle.meaning.specs.Numbers.{refusal_number};
 
 use std::fmt;
 use std::marker::Model;
@@ -50,7 +50,7 @@ pub enum Refusal {
 impl Refusal {
     // The number that it is answered with.
     pub fn number(self) -> u16
-        ensures { result ≡ number_of self }
+        ensures { result ≡ refusal_number self }
     {
         self as u16
     }
@@ -67,7 +67,7 @@ pub struct Fault {
 impl Model for Fault {
     ghost Value = { Answer };
 
-    ghost view = { λ f. record { number = number_of f.refusal; place = f.place; second = f.second } };
+    ghost view = { λ f. record { number = refusal_number f.refusal; place = f.place; second = f.second } };
 }
 
 // What a check finds: nothing, or the first fault.
@@ -87,7 +87,7 @@ impl Fault {
 
     // What is refused.
     pub fn refusal(&self) -> Refusal
-        ensures { number_of result ≡ self.now.number }
+        ensures { refusal_number result ≡ self.now.number }
     {
         self.refusal
     }
@@ -96,7 +96,7 @@ impl Fault {
 // A fault at a place, with none second.
 pub fn refuse(refusal: Refusal, place: usize) -> Outcome
     requires { place < 65536 }
-    ensures { result ≡ fault_of (number_of refusal) place 65535 }
+    ensures { result ≡ fault_of (refusal_number refusal) place 65535 }
 {
     refuse_with(refusal, place, 65535)
 }
@@ -104,7 +104,7 @@ pub fn refuse(refusal: Refusal, place: usize) -> Outcome
 // A fault at a place and a second place.
 pub fn refuse_with(refusal: Refusal, place: usize, second: usize) -> Outcome
     requires { (place < 65536) × (second < 65536) }
-    ensures { result ≡ fault_of (number_of refusal) place second }
+    ensures { result ≡ fault_of (refusal_number refusal) place second }
 {
     Err(Fault {
         refusal,
@@ -116,7 +116,7 @@ pub fn refuse_with(refusal: Refusal, place: usize, second: usize) -> Outcome
 // A fault where `bad` holds, at a place and with none second.
 pub fn refuse_if(bad: bool, refusal: Refusal, place: usize) -> Outcome
     requires { place < 65536 }
-    ensures { result ≡ when bad (fault_of (number_of refusal) place 65535) }
+    ensures { result ≡ when bad (fault_of (refusal_number refusal) place 65535) }
 {
     refuse_with_if(bad, refusal, place, 65535)
 }
@@ -125,7 +125,7 @@ pub fn refuse_if(bad: bool, refusal: Refusal, place: usize) -> Outcome
 #[tactic(auto, unfolding(crate::specs::Base::when))]
 pub fn refuse_with_if(bad: bool, refusal: Refusal, place: usize, second: usize) -> Outcome
     requires { (place < 65536) × (second < 65536) }
-    ensures { result ≡ when bad (fault_of (number_of refusal) place second) }
+    ensures { result ≡ when bad (fault_of (refusal_number refusal) place second) }
 {
     if bad {
         return refuse_with(refusal, place, second);

@@ -11,7 +11,16 @@ pub fn first_fault<F: Fn(usize) -> Outcome>(n: usize, fault_at: F) -> Outcome
     requires { (i : ℕ) → i < n → ((j : ℕ) → j < i → F.post fault_at j Clean) → F.pre fault_at i }
     ensures { (t : ℕ → Found) → ((i : ℕ) (r : Found) → i < n → F.post fault_at i r → r ≡ t i) → result ≡ first_below t n }
 {
-    for i in 0..n {
+    first_fault_from(0, n, fault_at)
+}
+
+// The same from a number on, where those before it have none.
+pub fn first_fault_from<F: Fn(usize) -> Outcome>(from: usize, n: usize, fault_at: F) -> Outcome
+    requires ordered { from ≤ n }
+    requires callable { (i : ℕ) → from ≤ i → i < n → ((j : ℕ) → from ≤ j → j < i → F.post fault_at j Clean) → F.pre fault_at i }
+    ensures { (t : ℕ → Found) → first_below t from ≡ Clean → ((i : ℕ) (r : Found) → from ≤ i → i < n → F.post fault_at i r → r ≡ t i) → result ≡ first_below t n }
+{
+    for i in from..n {
         fault_at(i)?;
     }
     Ok(())

@@ -68,11 +68,6 @@ module _ (m : List ℕ) (base width : ℕ) where
               let o = get_or-set_other met k a true false n in
               (λ e. more m i (base + a) ((all a la).0 (sym o ∙ e)) (λ h. n (omega (arith, at_k))), λ e. still m i (base + a) ((all a la).1 (sym o ∙ e)))
 
-      -- a marked one is met again
-      pub turn_twice : (n : ℕ) → i < n → get_or met k false ≡ true → FirstOldIn m base (base + width) n i
-      turn_twice n l marked =
-          record { within = omega arith; before = fresh; old = λ q. (omega (arith, at_k), omega (arith, at_k), rw at_k ((all k lk).1 marked)) }
-
     pub turn_out : ((base ≤ s) × (s - base < width) → ⊥) → Marks (i + 1) met × FreshIn m base (base + width) (i + 1)
     turn_out out = (
       λ a la. (λ e. more m i (base + a) ((all a la).0 e) (λ h. out (omega (arith, es, h), omega (arith, es, h))), λ e. still m i (base + a) ((all a la).1 e)),
@@ -98,7 +93,3 @@ module _ (m : List ℕ) (base width : ℕ) where
           let same : q ≡ r = omega (arith, here.within, ltb-false q r e) in
           let o = below.old (rw same at l) in
           rw same (omega arith, omega (arith, o.1), o.2)
-
--- before the first block: no symbol is below 0
-pub no_block : (m : List ℕ) (n : ℕ) → FirstOldIn m 0 0 n n
-no_block m n = record { within = omega arith; before = λ i l lo hi. absurd (omega arith); old = λ l. absurd (omega arith) }

@@ -4,13 +4,13 @@
 // is looked up. Names are compared only where their links are the same. A block in which many are is linked again, by other keys.
 #![tactic(auto)]
 
-ghost use Rattle.std.specs.Prelude.{◌≡◌, true, false, ℕ, ◌+◌, ◌/◌, ◌%◌, ◌^◌, ◌<◌, ◌≤◌, length, eqb, get_or, set, replicate, IfOk, IfErr, MatchOption};
+ghost use Rattle.std.specs.Prelude.{◌≡◌, true, false, ℕ, min, ◌+◌, ◌/◌, ◌%◌, ◌^◌, ◌<◌, ◌≤◌, length, eqb, get_or, set, replicate, IfOk, IfErr, MatchOption};
 ghost use Rattle.meaning.specs.Base.{Clean};
 ghost use Rattle.meaning.specs.Base.{word, first_below};
 ghost use Rattle.meaning.specs.Book.{start as start_of, text_start, spelled_name, new_name, record_at, section_fault};
 ghost use Rattle.names.specs.Keys.{mix, few as few_of, key_of, name_key, link_of, first_mark, second_mark, bit_at, Marked, Linked, Headed, AllMarked, Different, NotAmong, NewUpTo};
 
-use meaning::{Outcome, Refusal, refuse_with, refuse_with_if};
+use meaning::{Outcome, Refusal, refuse_with, refuse_with_if, turns};
 
 // How many names a block has at most.
 const BLOCK: usize = 224;
@@ -66,7 +66,7 @@ fn few(s: &[u8]) -> usize
     let Some(last) = s.last() else {
         return 0;
     };
-    raw::wide(s[0]) + 256 * raw::wide(s[s.len() / 2]) + 65536 * raw::wide(*last)
+    usize::from(s[0]) + 256 * usize::from(s[s.len() / 2]) + 65536 * usize::from(*last)
 }
 
 // A name's key.
@@ -279,7 +279,7 @@ impl<'a> Links<'a> {
         ensures found { IfOk result (λ o. MatchOption o (NotAmong self.now.block.m.now self.now.block.base name.now self.now.count) (λ j. (j < self.now.count) × (name.now ≡ spelled_name self.now.block.m.now (self.now.block.base + j)))) }
         ensures busy { IfErr result (λ _. limited ≡ true) }
     {
-        let mut c = raw::wide(self.rooms.heads[part::<LINK, LINKS>(key)]);
+        let mut c = usize::from(self.rooms.heads[part::<LINK, LINKS>(key)]);
         let mut compared: usize = 0;
         while let Some(j) = c.checked_sub(1) {
             if limited && compared == MOST {
@@ -288,7 +288,7 @@ impl<'a> Links<'a> {
             if raw::same(name, self.block.name(self.block.base + j)) {
                 return Ok(Some(j));
             }
-            c = raw::wide(self.rooms.nexts[j]);
+            c = usize::from(self.rooms.nexts[j]);
             compared += 1;
         }
         Ok(None)
@@ -357,18 +357,15 @@ fn block_fault(m: &[u8], base: usize, end: usize) -> Outcome
     requires { (base ≤ end) × (end < 65536) × (first_below (record_at m.now 1) base ≡ Clean) × ((s : ℕ) → base ≤ s → s < end → new_name m.now s ≡ true) }
     ensures { result ≡ first_below (record_at m.now 1) end }
 {
-    for s in base..end {
-        symbol_at(m, s)?;
-    }
-    Ok(())
+    turns::first_fault_from(base, end, |s| symbol_at(m, s))
 }
 
 // Where the block from base on ends.
 fn end_of(base: usize, n: usize) -> usize
     requires { (base < n) × (n < 65536) }
-    ensures { (base < result) × (result ≤ n) × (result ≤ base + 224) }
+    ensures { result ≡ min n (base + 224) }
 {
-    if n - base < BLOCK { n } else { base + BLOCK }
+    n.min(base + BLOCK)
 }
 
 // 3: the first malformed symbol.
@@ -376,15 +373,13 @@ pub fn fault(m: &[u8]) -> Outcome
     ensures { result ≡ section_fault m.now 1 }
 {
     let n = fields::symbols(m);
-    let mut base: usize = 0;
-    while base < n {
+    for base in (0..n).step_by(BLOCK) {
         let end = end_of(base, n);
         let old = base + first_old(m, base, end - base);
         block_fault(m, base, old)?;
         if old < end {
             return refuse_with(Refusal::Record, 1, old);
         }
-        base = end;
     }
     Ok(())
 }

@@ -67,7 +67,7 @@ pub extern "C" fn plaitcrumb_name(model: &[u8], index: usize) -> u64
         return 0;
     }
     let start = fields::name_start(model, index);
-    let length = raw::wide(fields::name_length(model, index));
+    let length = usize::from(fields::name_length(model, index));
     4294967296 * (start as u64) + (length as u64)
 }
 

@@ -1,11 +1,10 @@
 -- What the loops and early returns of this crate show: halves and words past an end, parts, and texts compared byte by byte. Assumes nothing.
-use mathlib.Core.Path.{◌≡◌, refl, sym, ◌∙◌}
+use mathlib.Core.Path.{◌≡◌, refl}
 use mathlib.Core.Logic.{⊎_elim}
 use mathlib.Core.List.{List, [], ◌∷◌}
-use Prim.Native.Nat.{ℕ, ◌+◌, ◌-◌, ◌≤◌, ◌<◌}
+use Prim.Native.Nat.{ℕ, ◌+◌, ◌-◌, ◌≤◌}
 use Rattle.std.specs.Prelude.{min}
 use native.Mathlib.Omega.{arith}
-use native.Mathlib.Numerals.{add-one}
 use lib.Dec.{eqb}
 use lib.Pointwise.{pointwise}
 use lib.ListN.{length, get_or, take, drop, get_or-eq_default, length-drop, drop_of_length-le}

@@ -3,8 +3,6 @@ use mathlib.Core.Path.{sym, ◌∙◌}
 use Rattle.tri.specs.Once.{Once, OnceIn}
 use Rattle.raw.proofs.byte.Kinds as ByteKinds
 use Rattle.raw.proofs.byte.Reads as ByteReads
-use Rattle.raw.proofs.wide.Kinds as WideKinds
-use Rattle.raw.proofs.wide.Reads as WideReads
 use Rattle.raw.proofs.half.Kinds as HalfKinds
 use Rattle.raw.proofs.half.Reads as HalfReads
 use Rattle.raw.proofs.joined_halves.Kinds as JoinedHalvesKinds
@@ -20,9 +18,6 @@ use Rattle.raw.proofs.same.Reads as SameReads
 
 pub byte_once : Once 1 ByteKinds.ps ByteKinds.r ByteReads.Post
 byte_once κs a x y s t p q = p ∙ sym q
-
-pub wide_once : Once 0 WideKinds.ps WideKinds.r WideReads.Post
-wide_once κs a x y s t p q = p.0 ∙ sym q.0
 
 pub half_once : Once 1 HalfKinds.ps HalfKinds.r HalfReads.Post
 half_once κs a x y s t p q = p.0 ∙ sym q.0

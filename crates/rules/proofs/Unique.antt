@@ -15,7 +15,7 @@ use Rattle.rules.proofs.check.Reads as CheckReads
 pub same_pair : {A B : Type 0} {a b : A} {c d : B} → a ≡ b → c ≡ d → ◌≡◌ {A = A × B} (a, c) (b, d)
 same_pair {A = A} {B = B} {a = a} {d = d} p q = ap {B = A × B} (λ (x : B). (a, x)) q ∙ ap {B = A × B} (λ (x : A). (x, d)) p
 
-pub fault_once : Once 3 FaultKinds.ps FaultKinds.r FaultReads.Post
+pub fault_once : Once 2 FaultKinds.ps FaultKinds.r FaultReads.Post
 fault_once κs a x y s t p q = p ∙ sym q
 
 -- the outcome, and every byte of the node work

@@ -11,6 +11,7 @@ ghost use Rattle.meaning.specs.Rules.{test10, choice_fault, test18, rules_fault}
 ghost use Rattle.rules.specs.Checked.{Checked, CheckedIn};
 
 use meaning::{Outcome, Refusal, refuse, turns};
+use values::Valued;
 
 // 10: the first entry that does not fit its symbol's type.
 fn types_fault(m: &[u8], t: &[u8]) -> Outcome
@@ -19,13 +20,14 @@ fn types_fault(m: &[u8], t: &[u8]) -> Outcome
     turns::first_fault(fields::symbols(m), |s| symbol_rules::type_fault(m, t, s))
 }
 
-// 15 to 17, choice by choice.
-fn choices_fault(m: &[u8], t: &[u8], vs: &[u8]) -> Outcome
-    ensures { result ≡ first_below (choice_fault m.now t.now vs.now) (choices_of m.now) }
+// 15 to 17, choice by choice. A call of its own, so that the rules before it need none of its stack.
+#[inline(never)]
+fn choices_fault(x: &Valued) -> Outcome
+    ensures { result ≡ first_below (choice_fault x.now.model.now x.now.table.now x.now.work.now) (choices_of x.now.model.now) }
 {
     turns::first_fault(
-        fields::choices(m),
-        |c| choice_rules::choice_fault(m, t, vs, c),
+        fields::choices(x.model),
+        |c| choice_rules::choice_fault(x, c),
     )
 }
 
@@ -36,15 +38,15 @@ fn modules_fault(m: &[u8], t: &[u8]) -> Outcome
     turns::first_fault(fields::symbols(m), |s| choice_rules::modules_fault(m, t, s))
 }
 
-// The first broken rule, where the nodes' values are vs.
+// The first broken rule, where the node work has the nodes' values.
 #[tactic(auto, unfolding(meaning::specs::Rules::rules_fault, meaning::specs::Base::or_else))]
-pub fn fault(m: &[u8], t: &[u8], vs: &[u8]) -> Outcome
-    ensures { result ≡ rules_fault m.now t.now vs.now }
+pub fn fault(x: &Valued) -> Outcome
+    ensures { result ≡ rules_fault x.now.model.now x.now.table.now x.now.work.now }
 {
-    types_fault(m, t)?;
-    blocks::fault(m, t, vs)?;
-    choices_fault(m, t, vs)?;
-    modules_fault(m, t)
+    types_fault(x.model, x.table)?;
+    blocks::fault(x)?;
+    choices_fault(x)?;
+    modules_fault(x.model, x.table)
 }
 
 // What the table check does after the book: 0, 5 to 7 and 10 to 18. Refused at 5 to 7 the node work stays, else it has each node's
@@ -58,7 +60,11 @@ pub fn check_in(model: &[u8], table: &[u8], work: &mut [u8]) -> Outcome
         return refuse(Refusal::NodeRoom, n);
     }
     values::fill(model, table, work);
-    fault(model, table, &work[0..n])
+    fault(&Valued {
+        model,
+        table,
+        work: &work[0..n],
+    })
 }
 
 // The table check: 0 to 7 and 10 to 18. Refused at 1 to 7 the node work stays, else it has each node's value in front.

@@ -5,34 +5,14 @@
 // symbol work, and the index asked for; then those bytes.
 #![tactic(auto)]
 
-ghost use Rattle.std.specs.Prelude.{◌≡◌, length, ◌≤◌};
-ghost use Rattle.std.specs.Io.{ReadsAtMost};
+ghost use Rattle.std.specs.Prelude.{◌≤◌};
 
 use meaning::{Answer, Outcome};
 use std::io;
 use std::io::{Read, Write};
 
-// Room for a slice that is longer than any book.
-fn room() -> [u8; 131072]
-    ensures { 131072 ≡ length result }
-{
-    [0; 131072]
-}
-
-// Reads until the room is full or the input ends, and answers how many bytes came.
-fn read_full<R: Read>(from: &mut R, room: &mut [u8]) -> io::Result<usize>
-    ensures { ReadsAtMost result room.new }
-{
-    let mut got = 0;
-    while got < room.len() {
-        let n = from.read(&mut room[got..])?;
-        if n == 0 {
-            break;
-        }
-        got += n;
-    }
-    Ok(got)
-}
+// Longer than any book, table or finding.
+const ROOM: usize = 131072;
 
 // Each byte as two hex digits.
 fn bytes<W: Write>(to: &mut W, s: &[u8]) -> io::Result<()> {
@@ -97,11 +77,11 @@ fn case_of<R: Read, W: Write>(
     work: &mut [u8],
     marks: &mut [u8],
 ) -> io::Result<()> {
-    read_full(from, name)?;
-    read_full(from, model)?;
-    read_full(from, second)?;
-    read_full(from, work)?;
-    read_full(from, marks)?;
+    reading::read_full(from, name)?;
+    reading::read_full(from, model)?;
+    reading::read_full(from, second)?;
+    reading::read_full(from, work)?;
+    reading::read_full(from, marks)?;
     to.write_all(name)?;
     to.write_all(b" ")?;
     run_case(to, kind, index, model, second, work, marks)?;
@@ -112,14 +92,13 @@ fn case_of<R: Read, W: Write>(
 fn size(head: &[u8], i: usize) -> usize
     ensures { result ≤ 131072 }
 {
-    let n = raw::word(head, i) as usize;
-    if n < 131072 { n } else { 131072 }
+    ROOM.min(raw::word(head, i) as usize)
 }
 
 // Reads one case, runs it, and answers whether there was one. Each buffer is lent once.
 fn one_case<R: Read, W: Write>(from: &mut R, to: &mut W) -> io::Result<bool> {
     let mut head = [0u8; 28];
-    let got = read_full(from, &mut head)?;
+    let got = reading::read_full(from, &mut head)?;
     if got < 28 {
         return Ok(false);
     }
@@ -130,11 +109,11 @@ fn one_case<R: Read, W: Write>(from: &mut R, to: &mut W) -> io::Result<bool> {
     let w = size(&head, 16);
     let z = size(&head, 20);
     let index = raw::word(&head, 24) as usize;
-    let mut name = room();
-    let mut model = room();
-    let mut second = room();
-    let mut work = room();
-    let mut marks = room();
+    let mut name = reading::room::<ROOM>();
+    let mut model = reading::room::<ROOM>();
+    let mut second = reading::room::<ROOM>();
+    let mut work = reading::room::<ROOM>();
+    let mut marks = reading::room::<ROOM>();
     case_of(
         from,
         to,

@@ -10,20 +10,17 @@ use lib.Dec.{eqb, leb, ltb}
 use lib.IntN.{ℤ, pos, negsuc}
 use lib.ListN.{length, get_or}
 use borrow.Author.Tests.{eq-eqb, ne_eqb, eqb-true, eqb-false, leb-false, lt-ltb, lt-leb}
-use Rattle.tri.specs.Three.{tri_of}
 use Rattle.meaning.specs.Base.{pick, fold, part, same_text}
-use Rattle.meaning.specs.Book.{op_of, left_of, right_of, text_start, three_type}
+use Rattle.meaning.specs.Book.{op_of, left_of, right_of, text_start}
 use Rattle.meaning.specs.Table.{signed_of}
 use Rattle.meaning.specs.Spell.{digit, digits, letter, spelled_int, spelled_hex}
 use Rattle.meaning.specs.Values.{leaf_of, yes_no, number_of}
-use Rattle.meaning.specs.Sets.{has, only, set_of, with_one, row, pairs, sat, leaf_set, is_free, spelled_at, equal_at, equal_set}
+use Rattle.meaning.specs.Sets.{has, set_of, with_one, row, pairs, leaf_set, is_free, spelled_at, equal_at, equal_set}
 use Rattle.spell.specs.declared.Leaf.{Leaf}
 use Rattle.spell.specs.Leaves.{leaf_content, spelled_leaf}
 use Rattle.sets.proofs.Laws.{at_other, equal_at_is}
-use Rattle.sets.specs.Work.{alike, by_letter, SideOf, Lone, fixed}
+use Rattle.sets.specs.Work.{alike, by_letter, Lone, fixed}
 use Rattle.std.specs.Prelude.{Option, Some, None}
-use Rattle.sets.specs.declared.Set.{Set}
-use Rattle.sets.specs.declared.Side.TheVariants.{Free, Three, Plain}
 
 -- PAIRS of which another operation makes the same
 pairs_like : {f g : ℕ → ℕ → ℕ} → ((x y : ℕ) → f x y ≡ g x y) → (a b : ℕ) → pairs f a b ≡ pairs g a b
@@ -107,30 +104,6 @@ letter_int v (negsuc n) = one_unlike (letter v) (45 ∷ digits 10 12 (suc n) [])
 
 letter_hex : (v h : ℕ) → same_text (letter v ∷ []) (spelled_hex h) ≡ false
 letter_hex v h = one_unlike (letter v) (48 ∷ 120 ∷ digits 16 12 h []) (omega arith)
-
--- SIDES: what an equality asks of a leaf, op by op
-module _ (m ys : List ℕ) (i : ℕ) {op : ℕ} (eo : op ≡ op_of m i) where
-  pub side_plain : (op ≡ 0 → ⊥) → (op ≡ 1 → ⊥) → SideOf m ys i Plain
-  unfolding is_free leaf_set
-  side_plain a b = (
-    rw (← eo, ne_eqb op 1 b),
-    rw (← eo, ne_eqb op 0 a, ne_eqb op 1 b),
-    rw (← eo) (lt-leb op 1 (omega arith)),
-  )
-
-  module _ {left : ℕ} (el : left ≡ left_of m i) where
-    pub side_constant : {a : Set} → op ≡ 0 → a.bits ≡ only (tri_of left) → SideOf m ys i (Three a)
-    unfolding is_free leaf_set
-    side_constant z ea = (rw (← eo, z), rw (← eo, z, ← el) ea, rw (← eo, z))
-
-    module _ {three : Bool} (z : op ≡ 1) (et : three ≡ three_type m left) where
-      pub side_three : {a : Set} → three ≡ true → a.bits ≡ sat ys left → SideOf m ys i (Three a)
-      unfolding is_free leaf_set
-      side_three t ea = (rw (← eo, z, ← el, ← et, t), rw (← eo, z, ← el) ea, rw (← eo, z))
-
-      pub side_free : three ≡ false → SideOf m ys i Free
-      unfolding is_free
-      side_free t = rw (← eo, z, ← el, ← et, t)
 
 -- LEAVES against a letter: a number, a text of one byte, any other text, and what is no leaf
 module _ (m : List ℕ) (i : ℕ) {op : ℕ} (eo : op ≡ op_of m i) where

@@ -75,6 +75,12 @@ module _ (m ys ss : List ℕ) (i : ℕ) {op : ℕ} (eo : op ≡ op_of m i) where
     node_equal h e =
         rw (← eo, lt-leb op 4 (omega arith), ne_eqb op 5 (λ z. omega arith), ne_eqb op 6 (λ z. omega arith), ne_eqb op 7 (λ z. omega arith), ← el, ← er) e
 
+  -- what is no node is n
+  pub node_none : 9 < op → 1 ≡ node_set m ys ss i
+  unfolding node_set
+  node_none h =
+      rw (← eo, lt-leb op 4 (omega arith), ne_eqb op 5 (λ z. omega arith), ne_eqb op 6 (λ z. omega arith), ne_eqb op 7 (λ z. omega arith), ne_eqb op 8 (λ z. omega arith), ne_eqb op 9 (λ z. omega arith))
+
 -- SETS are below 8
 set_small : (a b c : Bool) → set_of a b c < 8
 unfolding set_of

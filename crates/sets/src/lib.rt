@@ -4,10 +4,10 @@
 // only what is read is worked out, and that once.
 #![tactic(auto)]
 
-ghost use Rattle.std.specs.Prelude.{◌≡◌, ◌||◌, true, false, ℕ, ◌+◌, ◌<◌, ◌≤◌, ◌^◌, leb, length, get_or, IfSome, IfNone};
+ghost use Rattle.std.specs.Prelude.{◌≡◌, ◌||◌, true, false, ℕ, ◌+◌, ◌<◌, ◌≤◌, ◌^◌, leb, length, get_or, eqb, IfSome, IfNone};
 ghost use Rattle.tri.specs.Three.{tri_of, and_of, or_of};
 ghost use Rattle.meaning.specs.Base.{pick};
-ghost use Rattle.meaning.specs.Book.{nodes as nodes_of, op_of, default_value};
+ghost use Rattle.meaning.specs.Book.{nodes as nodes_of, type_of, op_of, default_value};
 ghost use Rattle.meaning.specs.Sets.{has as has_of, set_of, only as only_of, full as full_of, with_one, join as join_of, pairs as pairs_of};
 ghost use Rattle.meaning.specs.Sets.{least as least_of, most as most_of, sat, leaf_set, is_free, equal_at, equal_set, not_set};
 ghost use Rattle.meaning.specs.Sets.{lower_set, default_set};
@@ -15,6 +15,7 @@ ghost use Rattle.meaning.specs.Findings.{zeroed};
 ghost use Rattle.sets.specs.Work.{Makes, combined, SideOf, Lone, by_letter, equality_of, among, fixed, blank_at, blank_of, lasting, kept_at, Known, WorkedOut};
 ghost use Rattle.sets.specs.Single.{known_single};
 
+use fields::{Op, SymbolType};
 use tri::Tri;
 
 // How deep a node's operands are followed before all nodes are worked out in order instead.
@@ -60,14 +61,15 @@ impl Set {
         }
     }
 
-    // All that a type allows.
+    // All that a symbol's type allows.
     #[tactic(auto, unfolding(meaning::specs::Sets::full))]
-    pub fn full(kind: u8) -> Set
-        ensures { result.bits ≡ full_of kind }
+    pub fn full(m: &[u8], s: usize) -> Set
+        requires { s < 2 ^ 32 }
+        ensures { result.bits ≡ full_of (type_of m.now s) }
     {
-        match kind {
-            0 => Set { bits: 5 },
-            1 => Set { bits: 7 },
+        match fields::symbol_type(m, s) {
+            Some(SymbolType::Boolean) => Set { bits: 5 },
+            Some(SymbolType::Tristate) => Set { bits: 7 },
             _ => Set { bits: 1 },
         }
     }
@@ -217,13 +219,20 @@ fn leaf_set(m: &[u8], ys: &[u8], i: usize) -> Set
     requires { i < 2 ^ 32 }
     ensures { result.bits ≡ leaf_set m.now ys.now i }
 {
-    let op = fields::op_of(m, i);
     let left = fields::left_of(m, i);
-    match op {
-        0 => constant(left),
-        1 => at(ys, left),
+    match fields::node_op(m, i) {
+        Some(Op::Constant) => constant(left),
+        Some(Op::Symbol) => at(ys, left),
         _ => Set::N,
     }
+}
+
+// Whether a node is a leaf that names a symbol.
+fn is_symbol(m: &[u8], i: usize) -> bool
+    requires { i < 2 ^ 32 }
+    ensures { result ≡ eqb (op_of m.now i) 1 }
+{
+    fields::node_op(m, i) == Some(Op::Symbol)
 }
 
 // Whether leaf i is a string, int or hex symbol.
@@ -232,7 +241,7 @@ fn is_free(m: &[u8], i: usize) -> bool
     requires { i < 2 ^ 32 }
     ensures { result ≡ is_free m.now i }
 {
-    (fields::op_of(m, i) == 1) & !fields::is_three(m, fields::left_of(m, i))
+    is_symbol(m, i) & !fields::is_three(m, fields::left_of(m, i))
 }
 
 // What an equality asks of a leaf: it is a string, int or hex symbol, has one of the values of a set, or is a text or a number.
@@ -244,42 +253,35 @@ enum Side {
 }
 
 // What an equality asks of leaf i.
+#[tactic(auto, unfolding(meaning::specs::Sets::is_free, meaning::specs::Sets::leaf_set))]
 fn side_of(m: &[u8], ys: &[u8], i: usize) -> Side
     requires { i < 2 ^ 32 }
     ensures { SideOf m.now ys.now i result }
 {
-    let op = fields::op_of(m, i);
-    if op == 0 {
-        return Side::Three(constant(fields::left_of(m, i)));
+    let left = fields::left_of(m, i);
+    match fields::node_op(m, i) {
+        Some(Op::Constant) => Side::Three(constant(left)),
+        Some(Op::Symbol) if fields::is_three(m, left) => Side::Three(at(ys, left)),
+        Some(Op::Symbol) => Side::Free,
+        _ => Side::Plain,
     }
-    if op != 1 {
-        return Side::Plain;
-    }
-    let s = fields::left_of(m, i);
-    if fields::is_three(m, s) {
-        return Side::Three(at(ys, s));
-    }
-    Side::Free
 }
 
 // The one byte of leaf i, if it is a text of one: no letter spells another text, or a number. What is no leaf is n.
+#[tactic(auto, using(crate::proofs::Equal::lone_number, crate::proofs::Equal::lone_no_leaf, crate::proofs::Equal::lone_text, crate::proofs::Equal::lone_texts))]
 fn lone(m: &[u8], i: usize) -> Option<u8>
     requires { (i < 2 ^ 32) × (leb (op_of m.now i) 1 ≡ false) }
     ensures { Lone m.now i result }
 {
-    let op = fields::op_of(m, i);
-    if 4 < op {
-        return Some(spell::letter_of(0));
+    match fields::node_op(m, i) {
+        Some(Op::Text) => {
+            let at = fields::text_start(m) + fields::left_of(m, i);
+            let text = raw::part(m, at, fields::right_of(m, i));
+            if text.len() == 1 { Some(text[0]) } else { None }
+        }
+        Some(Op::Int | Op::Hex) => None,
+        _ => Some(spell::letter_of(0)),
     }
-    if op != 2 {
-        return None;
-    }
-    let at = fields::text_start(m) + fields::left_of(m, i);
-    let text = raw::part(m, at, fields::right_of(m, i));
-    if text.len() == 1 {
-        return Some(text[0]);
-    }
-    None
 }
 
 // y where the letter that spells x is this byte, else n.
@@ -347,7 +349,8 @@ fn equal_set(m: &[u8], ys: &[u8], i: usize, j: usize) -> Set
     }
 }
 
-// The set of an equality of leaves i and j, or of what is unlike, by a node's op.
+// The set of an equality of leaves i and j, or of what is unlike, by a node's op. By number, here and in its callers: they ask an op's place in the
+// order, and a second look at the op costs nodes that nothing reads 2.4% more instructions.
 fn equality(m: &[u8], ys: &[u8], op: u8, i: usize, j: usize) -> Set
     requires { (i < 2 ^ 32) × (j < 2 ^ 32) }
     ensures { (result.bits ≡ equality_of m.now ys.now op i j) × (result.bits < 8) }
@@ -364,7 +367,7 @@ fn is_fixed(m: &[u8], i: usize, j: usize) -> bool
     requires { (i < 2 ^ 32) × (j < 2 ^ 32) }
     ensures { result ≡ fixed m.now i j }
 {
-    let symbol = (fields::op_of(m, i) == 1) | (fields::op_of(m, j) == 1);
+    let symbol = is_symbol(m, i) | is_symbol(m, j);
     is_free(m, i) | is_free(m, j) | !symbol
 }
 
@@ -475,21 +478,25 @@ impl<'a> Path<'a> {
     }
 
     // The set of node i, where every node before it but leaves is worked out.
+    #[tactic(auto, using(crate::proofs::Nodes::settled, crate::proofs::Nodes::node_none), unfolding(meaning::specs::Sets::node_set))]
     fn from_before(&self, i: usize) -> Set
         requires { (i < nodes_of self.now.m.now) × (nodes_of self.now.m.now < 65536) × WorkedOut self.now.m.now self.now.w.now i }
         ensures set { result.bits ≡ among self.now.m.now self.now.ys.now (i + 1) i }
         ensures small { 4 < op_of self.now.m.now i → result.bits < 8 }
     {
-        let op = fields::op_of(self.m, i);
-        if op <= 4 {
-            return leaf_set(self.m, self.ys, i);
-        }
         let left = fields::left_of(self.m, i);
         let right = fields::right_of(self.m, i);
-        if 7 < op {
-            return equality(self.m, self.ys, op, left, right);
+        match fields::node_op(self.m, i) {
+            Some(Op::Constant | Op::Symbol | Op::Text | Op::Int | Op::Hex) => leaf_set(
+                self.m, self.ys, i,
+            ),
+            Some(Op::Not) => self.operand_at(i, left).opposite(),
+            Some(Op::And) => self.operand_at(i, left).both(self.operand_at(i, right)),
+            Some(Op::Or) => self.operand_at(i, left).either(self.operand_at(i, right)),
+            Some(Op::Equal) => equal_set(self.m, self.ys, left, right),
+            Some(Op::Unequal) => equal_set(self.m, self.ys, left, right).opposite(),
+            None => Set::N,
         }
-        combined(op, self.operand_at(i, left), self.operand_at(i, right))
     }
 
     // Works out node i, if it is not worked out yet.

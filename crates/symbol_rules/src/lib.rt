@@ -1,9 +1,9 @@
 // Rules 10 to 14 at one symbol.
 //
-// Total over any bytes: `vs` has the nodes' values, and the caller knows a symbol's Default and Lower. A symbol's number is below 2^16.
+// Total over any bytes: the node work has the nodes' values, and the caller knows a symbol's Default and Lower. A symbol's number is below 2^16.
 #![tactic(auto)]
 
-ghost use Rattle.std.specs.Prelude.{◌≡◌, ◌⊎◌, ◌<◌, ◌≤◌, ℕ, List};
+ghost use Rattle.std.specs.Prelude.{◌≡◌, ◌<◌, ◌≤◌, ℕ, List};
 ghost use Rattle.meaning.specs.Base.{Clean, Fault};
 ghost use Rattle.meaning.specs.Base.{when, first_below};
 ghost use Rattle.meaning.specs.Table.{content_in, content_of, value_of, a_text};
@@ -11,11 +11,12 @@ ghost use Rattle.meaning.specs.Values.{prompt_value};
 ghost use Rattle.meaning.specs.Book.{ranges as ranges_of};
 ghost use Rattle.meaning.specs.Rules.{type_fits, same_content, within, broken13_content, three_tests, test10, test14};
 ghost use Rattle.spell.specs.Leaves.{leaf_content};
-ghost use Rattle.symbol_rules.specs.Ranges.{KeptAt, KeptBelow, BrokenAt};
+ghost use Rattle.symbol_rules.specs.Ranges.{FirstOff};
 
 use meaning::{Outcome, Refusal, Value, refuse_if, refuse_with_if, turns};
 use spell::Leaf;
 use tri::Tri;
+use values::Valued;
 
 // Whether type y takes the value v of table t: m is no boolean's, and an int or a hex may be the empty string.
 fn type_fits(t: &[u8], y: u8, v: Value) -> bool
@@ -40,61 +41,60 @@ pub fn type_fault(m: &[u8], t: &[u8], s: usize) -> Outcome
 }
 
 // 11, 12 and 13 in turn, of a boolean or tristate symbol with this value, prompt, Default and Lower.
-#[tactic(auto, unfolding(meaning::specs::Rules::three_tests, meaning::specs::Base::or_else, meaning::specs::Base::when))]
+#[tactic(auto, using(tri::proofs::Order::below, tri::proofs::Order::up_to), unfolding(meaning::specs::Rules::three_tests, meaning::specs::Base::or_else, meaning::specs::Base::when))]
 fn three_tests(s: usize, v: Tri, p: Tri, d: Tri, low: Tri) -> Outcome
     requires { s < 65536 }
     ensures { result ≡ three_tests s v.v p.v d.v low.v }
 {
-    refuse_if(v.v < low.v, Refusal::Lower, s)?;
-    refuse_if((0 < p.v) & (low.v <= p.v) & (p.v < v.v), Refusal::Upper, s)?;
-    let owed = d.or(low);
-    refuse_if((p.v == 0) & (v.v != owed.v), Refusal::Default, s)
+    refuse_if(v < low, Refusal::Lower, s)?;
+    refuse_if((Tri::N < p) & (low <= p) & (p < v), Refusal::Upper, s)?;
+    refuse_if((p == Tri::N) & (v != d.or(low)), Refusal::Default, s)
 }
 
 // 11, 12 or 13 at s, a boolean or tristate symbol, by its Default and Lower.
-pub fn three_by(m: &[u8], t: &[u8], vs: &[u8], s: usize, d: Tri, low: Tri) -> Outcome
+pub fn three_by(x: &Valued, s: usize, d: Tri, low: Tri) -> Outcome
     requires { s < 65536 }
-    ensures { result ≡ three_tests s (value_of t.now s) (prompt_value m.now vs.now s) d.v low.v }
+    ensures { result ≡ three_tests s (value_of x.now.table.now s) (prompt_value x.now.model.now x.now.work.now s) d.v low.v }
 {
-    let v = entries::three(t, s);
-    let p = values::at(vs, fields::prompt_of(m, s));
+    let v = entries::three(x.table, s);
+    let p = x.node(fields::prompt_of(x.model, s));
     three_tests(s, v, p, d, low)
 }
 
-// Whether leaf b is the text x.
-fn same_text(x: &[u8], m: &[u8], t: &[u8], b: Leaf) -> bool
-    ensures { result ≡ same_content (a_text x.now) (leaf_content m.now t.now b) }
+// Whether leaf b is the text.
+fn same_text(text: &[u8], x: &Valued, b: Leaf) -> bool
+    ensures { result ≡ same_content (a_text text.now) (leaf_content x.now.model.now x.now.table.now b) }
 {
     match b {
-        Leaf::Note(at, n) => raw::same(x, raw::part(m, at, n)),
-        Leaf::Text(at, n) => raw::same(x, raw::part(t, at, n)),
+        Leaf::Note(at, n) => raw::same(text, raw::part(x.model, at, n)),
+        Leaf::Text(at, n) => raw::same(text, raw::part(x.table, at, n)),
         _ => false,
     }
 }
 
 // Whether two leaves are of one kind and content.
-fn same_content(m: &[u8], t: &[u8], a: Leaf, b: Leaf) -> bool
-    ensures { result ≡ same_content (leaf_content m.now t.now a) (leaf_content m.now t.now b) }
+fn same_content(x: &Valued, a: Leaf, b: Leaf) -> bool
+    ensures { result ≡ same_content (leaf_content x.now.model.now x.now.table.now a) (leaf_content x.now.model.now x.now.table.now b) }
 {
     match (a, b) {
         (Leaf::Three(v), Leaf::Three(w)) => v == w,
         (Leaf::Int(z), Leaf::Int(w)) => z == w,
         (Leaf::Hex(g), Leaf::Hex(h)) => g == h,
-        (Leaf::Note(at, n), _) => same_text(raw::part(m, at, n), m, t, b),
-        (Leaf::Text(at, n), _) => same_text(raw::part(t, at, n), m, t, b),
+        (Leaf::Note(at, n), _) => same_text(raw::part(x.model, at, n), x, b),
+        (Leaf::Text(at, n), _) => same_text(raw::part(x.table, at, n), x, b),
         _ => false,
     }
 }
 
 // 13 at s, a string, int or hex symbol, by its Default.
 #[tactic(auto, unfolding(meaning::specs::Table::content_of, meaning::specs::Values::prompt_value))]
-pub fn other_by(m: &[u8], t: &[u8], vs: &[u8], s: usize, d: Leaf) -> Outcome
+pub fn other_by(x: &Valued, s: usize, d: Leaf) -> Outcome
     requires { s < 65536 }
-    ensures { result ≡ when (broken13_content (content_of t.now s) (prompt_value m.now vs.now s) (leaf_content m.now t.now d)) (Fault 13 s 65535) }
+    ensures { result ≡ when (broken13_content (content_of x.now.table.now s) (prompt_value x.now.model.now x.now.work.now s) (leaf_content x.now.model.now x.now.table.now d)) (Fault 13 s 65535) }
 {
-    let v = Leaf::from(entries::value(t, s));
-    let p = values::at(vs, fields::prompt_of(m, s));
-    let bad = (p.v == 0) & !same_content(m, t, v, d);
+    let v = Leaf::from(entries::value(x.table, s));
+    let p = x.node(fields::prompt_of(x.model, s));
+    let bad = (p == Tri::N) & !same_content(x, v, d);
     refuse_if(bad, Refusal::Default, s)
 }
 
@@ -110,55 +110,40 @@ fn within(low: Leaf, high: Leaf, v: Leaf) -> bool
 }
 
 // 14 at s, if range r is on it and broken.
-fn range_at(m: &[u8], t: &[u8], vs: &[u8], s: usize, r: usize) -> Outcome
+fn range_at(x: &Valued, s: usize, r: usize) -> Outcome
     requires { (s < 65536) × (r < 65536) }
-    ensures { result ≡ test14 m.now t.now vs.now s r }
+    ensures { result ≡ test14 x.now.model.now x.now.table.now x.now.work.now s r }
 {
-    if fields::range_symbol(m, r) != s {
+    if fields::range_symbol(x.model, r) != s {
         return Ok(());
     }
-    let v = Leaf::from(entries::value(t, s));
-    let condition = values::at(vs, fields::range_condition(m, r));
-    let low = values::leaf(m, t, fields::low_of(m, r));
-    let high = values::leaf(m, t, fields::high_of(m, r));
-    let bad = (0 < condition.v) & !within(low, high, v);
+    let v = Leaf::from(entries::value(x.table, s));
+    let condition = x.node(fields::range_condition(x.model, r));
+    let low = x.leaf(fields::low_of(x.model, r));
+    let high = x.leaf(fields::high_of(x.model, r));
+    let bad = (Tri::N < condition) & !within(low, high, v);
     refuse_with_if(bad, Refusal::Range, s, r)
 }
 
 // 14 at s: the first range on it that is broken.
 #[tactic(auto, unfolding(meaning::specs::Base::first_below))]
-pub fn ranges_fault(m: &[u8], t: &[u8], vs: &[u8], s: usize) -> Outcome
+pub fn ranges_fault(x: &Valued, s: usize) -> Outcome
     requires { s < 65536 }
-    ensures { result ≡ first_below (test14 m.now t.now vs.now s) (ranges_of m.now) }
+    ensures { result ≡ first_below (test14 x.now.model.now x.now.table.now x.now.work.now s) (ranges_of x.now.model.now) }
 {
-    turns::first_fault(fields::ranges(m), |r| range_at(m, t, vs, s, r))
+    turns::first_fault(fields::ranges(x.model), |r| range_at(x, s, r))
 }
 
-// The symbol of range r where that one is broken and below `first`, else `first`.
-#[tactic(auto, unfolding(meaning::specs::Rules::test14, meaning::specs::Base::when))]
-fn lowered(m: &[u8], t: &[u8], vs: &[u8], r: usize, first: usize) -> usize
-    requires { (r < 65536) × (first ≤ 65536) }
-    ensures { (result ≤ first) × KeptAt m.now t.now vs.now result r × ((result ≡ first) ⊎ (test14 m.now t.now vs.now result r ≡ Clean → ⊥)) }
+// The first symbol that has a broken range, if one has.
+pub fn first_off(x: &Valued) -> Option<usize>
+    ensures { FirstOff x.now.model.now x.now.table.now x.now.work.now (ranges_of x.now.model.now) result }
 {
-    let s = fields::range_symbol(m, r);
-    if first <= s {
-        return first;
-    }
-    if range_at(m, t, vs, s, r).is_err() {
-        s
-    } else {
-        first
-    }
-}
-
-// The first symbol that has a broken range; 65,536 if there is none.
-pub fn first_off(m: &[u8], t: &[u8], vs: &[u8]) -> usize
-    ensures { (result ≤ 65536) × KeptBelow m.now t.now vs.now (ranges_of m.now) result × BrokenAt m.now t.now vs.now (ranges_of m.now) result }
-{
-    let n = fields::ranges(m);
-    let mut first: usize = 65536;
-    for r in 0..n {
-        first = lowered(m, t, vs, r, first);
+    let mut first = None;
+    for r in 0..fields::ranges(x.model) {
+        let s = fields::range_symbol(x.model, r);
+        if first.is_none_or(|off| s < off) && range_at(x, s, r).is_err() {
+            first = Some(s);
+        }
     }
     first
 }

@@ -10,5 +10,5 @@ returns c =
     let pre = c.requires in
     let given = c.args in
     let name-length-from = c.name_length_from in
-    let wide = c.wide-n in
-    (c.part.ensures ∙ rw (pre.2, c.name_offset_from.ensures.0, wide.ensures.0, name-length-from.ensures), rw c.part.ensures (omega (arith, wide.ensures.1, part_small given.m.now (given.texts + c.name_offset_from.result) wide.result)))
+    let long = c.from-n in
+    (c.part.ensures ∙ rw (pre.2, c.name_offset_from.ensures.0, long.ensures, name-length-from.ensures), rw c.part.ensures (omega (arith, long.ensures, part_small given.m.now (given.texts + c.name_offset_from.result) long.result)))

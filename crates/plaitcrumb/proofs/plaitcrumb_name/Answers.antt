@@ -11,4 +11,4 @@ pub returns-then-symbols-index : goal.returns-then-symbols-index
 returns-then-symbols-index c = place_past c.args.model.now c.args.index c.fault.ensures (sym c.is_err.ensures.value ∙ c.if-is_err.false) c.symbols.ensures.0 c.if-symbols-index.true
 
 pub returns : goal.returns
-returns c = place_is c.args.model.now c.args.index c.fault.ensures (sym c.is_err.ensures.value ∙ c.if-is_err.false) c.symbols.ensures.0 (omega arith) c.name_start-start.ensures.0 (c.wide-length.ensures.0 ∙ c.name_length.ensures)
+returns c = place_is c.args.model.now c.args.index c.fault.ensures (sym c.is_err.ensures.value ∙ c.if-is_err.false) c.symbols.ensures.0 (omega arith) c.name_start-start.ensures.0 (c.from-length.ensures ∙ c.name_length.ensures)

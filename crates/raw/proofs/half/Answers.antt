@@ -6,11 +6,11 @@ use mathlib.Core.Path.{sym, ◌∙◌}
 use Rattle.raw.proofs.half.Goals as goal
 
 pub returns-then-s-lt2 : goal.returns-then-s-lt2
-returns-then-s-lt2 c = (c.wide.ensures.0 ∙ c.byte.ensures ∙ sym (half_end _ _ (omega arith)), omega (arith, c.wide.ensures.1))
+returns-then-s-lt2 c = (c.from.ensures ∙ c.byte.ensures ∙ sym (half_end _ _ (omega arith)), omega arith)
 
 pub returns-then-i-s : goal.returns-then-i-s
 unfolding half
 returns-then-i-s c = (c.joined.ensures.0, c.joined.ensures.1)
 
 pub returns : goal.returns
-returns c = (c.wide-2.ensures.0 ∙ c.byte-2.ensures ∙ sym (half_end _ _ (omega arith)), omega (arith, c.wide-2.ensures.1))
+returns c = (c.from-2.ensures ∙ c.byte-2.ensures ∙ sym (half_end _ _ (omega arith)), omega arith)

@@ -12,8 +12,8 @@ unfolding name_ok
 returns c =
     let given = c.args in
     let name-length = c.name_length in
-    let wide = c.wide-n in
+    let long = c.from-n in
     let name-start = c.name_start in
     let part = c.part-name in
     let name-offset = c.name_offset in
-    spelled_in given.m.now name-start.result wide.result (leb 1 wide.result && leb wide.result 64 && leb (name-offset.result + wide.result) c.texts.result) part.ensures c.spelled_well.ensures ∙ rw (name-start.ensures.0, name-offset.ensures.0, c.texts.ensures.0, wide.ensures.0, name-length.ensures)
+    spelled_in given.m.now name-start.result long.result (leb 1 long.result && leb long.result 64 && leb (name-offset.result + long.result) c.texts.result) part.ensures c.spelled_well.ensures ∙ rw (name-start.ensures.0, name-offset.ensures.0, c.texts.ensures.0, long.ensures, name-length.ensures)

@@ -1,17 +1,25 @@
--- `symbol_rules::first_off` meets its contract: below the symbol found so far every range so far is kept, and one is broken at it.
-use Rattle.symbol_rules.proofs.Laws.{kept_more, broken_more}
-use native.Mathlib.Omega.{arith}
-use mathlib.Core.Path.{◌≡◌}
+-- `symbol_rules::first_off` meets its contract: the symbol found so far is the first that breaks one of the ranges so far.
+use borrow.Author.Rules.{of_calls}
+use Rattle.std.proofs.Common.{rules, ◌≡◌}
+use Rattle.meaning.specs.Base.{Clean}
+use Rattle.meaning.specs.Rules.{test14}
+use Rattle.symbol_rules.proofs.Laws.{off_found, off_stays, lies_below, lies_past, kept_before, kept_there}
 use Rattle.symbol_rules.proofs.first_off.Goals as goal
-
-pub loop-r-init : goal.loop-r-init
-loop-r-init c = (omega arith, omega arith, λ q l. absurd (omega arith), λ l. absurd (omega arith))
-
-pub lowered-first-requires : goal.lowered-first-requires
-lowered-first-requires c = (omega arith, c.loop-r.invariant.1)
+use Rattle.symbol_rules.proofs.first_off.Goals.{then-is_none_or+then-is_err, else-is_none_or, else-is_none_or-via-then-is_none_or+else-is_err, else-is_none_or-via-else-is_none_or}
 
 pub loop-r-preserved : goal.loop-r-preserved
-loop-r-preserved c = (omega arith, omega (arith, c.lowered-first.ensures.0), kept_more c.args.m.now c.args.t.now c.args.vs.now c.loop-r.r c.lowered-first.ensures.0 c.lowered-first.ensures.1 c.lowered-first.ensures.2 c.loop-r.invariant.2, broken_more c.args.m.now c.args.t.now c.args.vs.now c.loop-r.r c.lowered-first.ensures.0 c.lowered-first.ensures.1 c.lowered-first.ensures.2 c.loop-r.invariant.3)
-
-pub returns : goal.returns
-returns c = let e : c.loop-r.r ≡ c.ranges-n.result = omega arith in (c.loop-r.invariant.1, rw (e, c.ranges-n.ensures.0) at c.loop-r.invariant.2, rw (e, c.ranges-n.ensures.0) at c.loop-r.invariant.3)
+loop-r-preserved c =
+    let x = c.args.x.now in
+    let s = c.range_symbol-s.result in
+    let here = c.range_symbol-s.ensures in
+    elim c.if-is_none_or.branch [
+      | then-is_none_or+then-is_err w ↦
+          let no : test14 x.model.now x.table.now x.work.now s c.loop-r.r ≡ Clean → ⊥ = search rules in
+          rw w.first-is (off_found x.model.now x.table.now x.work.now c.loop-r.r here.0 here.1 c.loop-r.first c.loop-r.invariant (lies_below c.loop-r.first c.is_none_or.ensures (λ off q. search (of_calls, q)) here.1 w.if-is_none_or.true) no)
+      | else-is_none_or w ↦ rw w.first-is (off_stays x.model.now x.table.now x.work.now c.loop-r.r c.loop-r.first c.loop-r.invariant (elim w.else-is_none_or.branch [
+        | else-is_none_or-via-then-is_none_or+else-is_err w' ↦
+            let yes : test14 x.model.now x.table.now x.work.now s c.loop-r.r ≡ Clean = search rules in
+            kept_there x.model.now x.table.now x.work.now c.loop-r.r here.0 _ yes
+        | else-is_none_or-via-else-is_none_or w' ↦ kept_before x.model.now x.table.now x.work.now c.loop-r.r here.0 _ (lies_past c.loop-r.first c.is_none_or.ensures (λ off q. search (of_calls, q)) w'.if-is_none_or.false)
+      ]))
+    ]

@@ -10,7 +10,7 @@ loop-j-init c =
     let m = self.block.m.now in
     let base = self.block.base in
     let name = c.args.name.now in
-    let begins = headed_at self.factor m base self.rooms.now.heads self.count name self.headed c.requires c.part.ensures.0 c.wide-c.ensures.0 in
+    let begins = headed_at self.factor m base self.rooms.now.heads self.count name self.headed c.requires c.part.ensures.0 c.from-c.ensures in
     let low = start_le m base self.rooms.now.nexts name self.factor self.count begins in
     record {
       within = omega (arith, low);
@@ -25,7 +25,7 @@ returns-then-same-clause-found c =
 pub loop-j-smaller : goal.loop-j-smaller
 loop-j-smaller c =
     let self = c.args.self.now in
-    walk_less self.block.m.now self.block.base self.rooms.now.nexts c.args.name.now self.factor c.loop-j.c c.in-Some.j (omega (arith, c.in-Some.ensures)) c.loop-j.invariant.walk c.wide-c-in-Some.ensures.0
+    walk_less self.block.m.now self.block.base self.rooms.now.nexts c.args.name.now self.factor c.loop-j.c c.in-Some.j (omega (arith, c.in-Some.ensures)) c.loop-j.invariant.walk c.from-c-in-Some.ensures
 
 pub loop-j-preserved : goal.loop-j-preserved
 loop-j-preserved c =
@@ -35,7 +35,7 @@ loop-j-preserved c =
     let name = c.args.name.now in
     let loop = c.loop-j in
     let here : loop.c ≡ c.in-Some.j + 1 = omega (arith, c.in-Some.ensures) in
-    let step = c.wide-c-in-Some.ensures.0 in
+    let step = c.from-c-in-Some.ensures in
     let less = walk_less m base self.rooms.now.nexts name self.factor loop.c c.in-Some.j here loop.invariant.walk step in
     record {
       within = omega (arith, less, loop.invariant.within);

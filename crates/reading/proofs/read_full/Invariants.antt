@@ -1,7 +1,7 @@
--- `desk::read_full` ends, since the room fills; what stands in it is what the reader gave.
+-- `reading::read_full` ends, since the room fills; what stands in it is what the reader gave.
 use Rattle.std.proofs.Common.{length, ◌-◌, take, ◌≤◌}
 use Rattle.std.specs.Io.KnownBytes.{Consumes}
-use Rattle.desk.proofs.read_full.Given as goal
+use Rattle.reading.proofs.read_full.Given as goal
 
 abbrev pub invariant-loop-got : goal.invariant-loop-got
 invariant-loop-got g l = (l.got ≤ length l.room) × Consumes (g.R.Read.remaining l.initial.from) (g.R.Read.remaining l.from) (take l.got l.room)

@@ -1,5 +1,5 @@
-use Rattle.desk.proofs.Reading.{read_more}
-use Rattle.desk.proofs.read_full.Goals as goal
+use Rattle.reading.proofs.Reading.{read_more}
+use Rattle.reading.proofs.read_full.Goals as goal
 
 pub loop-got-preserved : goal.loop-got-preserved
 loop-got-preserved g c =
