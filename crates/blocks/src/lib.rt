@@ -86,7 +86,8 @@ fn own_fault(x: &Valued, s: usize, low: u8, first: u16) -> Outcome
     symbol_rules::other_by(x, s, default_leaf(x, first))
 }
 
-// 11, 12 and 13 of the symbols below end, where those below base keep them and at most a block is left.
+// 11, 12 and 13 of the symbols below end, where those below base keep them and at most a block is left. The two passes go over other records,
+// in other directions, into rooms of other types: one function for both would take three closures, and be no plainer.
 fn block_fault(x: &Valued, base: usize, end: usize) -> Outcome
     requires { (base ≤ end) × (end ≤ base + 96) × (end < 65536) × (first_below (own_fault x.now.model.now x.now.table.now x.now.work.now) base ≡ Clean) }
     ensures { result ≡ first_below (own_fault x.now.model.now x.now.table.now x.now.work.now) end }
@@ -101,7 +102,7 @@ fn block_fault(x: &Valued, base: usize, end: usize) -> Outcome
         }
     }
     // One more than the number of the first default, 0 for none: as options these would take 192 bytes more of the stack, of which a table check
-    // has 968 now and 1,023 at most.
+    // has 936 now and 1,023 at most.
     let mut first = [0u16; BLOCK];
     let defaults = fields::defaults(m);
     let defaults_at = fields::start(m, 3);

@@ -12,6 +12,7 @@ ghost use Rattle.meaning.specs.Book.{modules_fault, book_fault, name_of, members
 ghost use Rattle.members.specs.Old.{FirstOld};
 ghost use Rattle.book.specs.Turns.{InTurn};
 
+use fields::SymbolType;
 use meaning::{Outcome, Refusal, refuse_if, refuse_with_if, turns};
 
 // 1: too short, or unlike its total.
@@ -151,13 +152,14 @@ fn records_fault(m: &[u8]) -> Outcome
     members_fault(m)
 }
 
-// 4: the modules symbol is no boolean symbol.
+// 4: the modules symbol is no boolean symbol. 65535 stands for none in the book itself.
 #[tactic(auto, unfolding(meaning::specs::Book::modules_fault, meaning::specs::Base::when))]
 fn modules_fault(m: &[u8]) -> Outcome
     ensures { result ≡ modules_fault m.now }
 {
     let s = fields::modules(m);
-    let boolean = (s < fields::symbols(m)) & (fields::type_of(m, s) == 0);
+    let boolean = (s < fields::symbols(m))
+        & (fields::symbol_type(m, s) == Some(SymbolType::Boolean));
     let bad = (s != 65535) & !boolean;
     refuse_if(bad, Refusal::ModulesSymbol, s)
 }

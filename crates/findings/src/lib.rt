@@ -53,7 +53,7 @@ fn leaf_head(m: &[u8], q: usize, rule: u8, place: u16, next: u16) -> Option<Head
     leaf_stands(m, q, rule, usize::from(place)).then_some(Head::Leaf(rule, place, next))
 }
 
-// A split on symbol s, if its set is still all that its type allows.
+// A split on symbol s, if its set is still all that its type allows: by the bits that the definition names.
 #[tactic(auto, unfolding(meaning::specs::Clearance::split_head, meaning::specs::Base::pick))]
 fn split_head(set: u8, s: u16, next: u16) -> Option<Head>
     ensures { result ≡ split_head set s next }

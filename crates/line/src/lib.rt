@@ -28,7 +28,8 @@ fn rest(s: &[u8], at: usize) -> &[u8]
     &s[at.min(s.len())..]
 }
 
-// The symbol that an outcome names, 65535 for none: at the place or at the second place, by what is refused.
+// The symbol that an outcome names: at the place or at the second place, by what is refused. 65535 for none, as in the definitions of `offender` and
+// of the name that it is handed on to.
 fn offender_of(outcome: &Outcome) -> usize
     ensures { result ≡ offender outcome.now }
 {

@@ -48,20 +48,40 @@ fn finding_case<W: Write>(
     bytes(to, marks)
 }
 
-// What a case of this kind answers.
+// What a case asks for.
+#[derive(Clone, Copy)]
+enum Asked {
+    Table,
+    Finding,
+    Name,
+}
+
+// The number that stands in a case: any above 1 asks for a name.
+impl From<u32> for Asked {
+    fn from(kind: u32) -> Asked {
+        match kind {
+            0 => Asked::Table,
+            1 => Asked::Finding,
+            _ => Asked::Name,
+        }
+    }
+}
+
+// What a case of this kind answers. Its bytes are handed on one by one: of a struct that lends them, a read of one while another is lent gets no
+// proof yet.
 fn run_case<W: Write>(
     to: &mut W,
-    kind: u32,
+    asked: Asked,
     index: usize,
     model: &[u8],
     second: &[u8],
     work: &mut [u8],
     marks: &mut [u8],
 ) -> io::Result<()> {
-    match kind {
-        0 => table_case(to, model, second, work),
-        1 => finding_case(to, model, second, work, marks),
-        _ => bytes(to, book::name(model, index)),
+    match asked {
+        Asked::Table => table_case(to, model, second, work),
+        Asked::Finding => finding_case(to, model, second, work, marks),
+        Asked::Name => bytes(to, book::name(model, index)),
     }
 }
 
@@ -69,7 +89,7 @@ fn run_case<W: Write>(
 fn case_of<R: Read, W: Write>(
     from: &mut R,
     to: &mut W,
-    kind: u32,
+    asked: Asked,
     index: usize,
     name: &mut [u8],
     model: &mut [u8],
@@ -84,7 +104,7 @@ fn case_of<R: Read, W: Write>(
     reading::read_full(from, marks)?;
     to.write_all(name)?;
     to.write_all(b" ")?;
-    run_case(to, kind, index, model, second, work, marks)?;
+    run_case(to, asked, index, model, second, work, marks)?;
     to.write_all(b"\n")
 }
 
@@ -102,7 +122,7 @@ fn one_case<R: Read, W: Write>(from: &mut R, to: &mut W) -> io::Result<bool> {
     if got < 28 {
         return Ok(false);
     }
-    let kind = raw::word(&head, 0);
+    let asked = Asked::from(raw::word(&head, 0));
     let n = size(&head, 4);
     let m = size(&head, 8);
     let t = size(&head, 12);
@@ -117,7 +137,7 @@ fn one_case<R: Read, W: Write>(from: &mut R, to: &mut W) -> io::Result<bool> {
     case_of(
         from,
         to,
-        kind,
+        asked,
         index,
         &mut name[0..n],
         &mut model[0..m],

@@ -195,7 +195,7 @@ pub fn at(ys: &[u8], i: usize) -> Set
     ys.get(i).map_or(Set::N, |&bits| Set { bits })
 }
 
-// Not, and, or of two sets by a node's op. Not reads the first alone.
+// Not, and, or of two sets by a node's op, by number as in `equality`. Not reads the first alone.
 fn combined(op: u8, l: Set, r: Set) -> Set
     ensures { (result.bits ≡ combined op l.bits r.bits) × (result.bits < 8) }
 {

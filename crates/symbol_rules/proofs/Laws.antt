@@ -14,9 +14,9 @@ use Rattle.meaning.specs.Base.{Clean, Fault}
 use Rattle.meaning.specs.declared.Value.{Value}
 use Rattle.meaning.specs.Base.{when}
 use Rattle.meaning.specs.Book.{range_symbol, low_of, high_of, range_condition}
-use Rattle.meaning.specs.Table.{read_of, content_of}
+use Rattle.meaning.specs.Table.{Content, a_three, a_text, an_int, a_hex, read_of, content_of}
 use Rattle.meaning.specs.Values.{val, leaf_of}
-use Rattle.meaning.specs.Rules.{within, test14}
+use Rattle.meaning.specs.Rules.{type_fits, within, test14}
 use Rattle.spell.specs.declared.Leaf.{Leaf}
 use Rattle.spell.specs.Leaves.{leaf_content, leaf_of_value}
 use Rattle.values.proofs.Laws.{as_leaf}
@@ -91,3 +91,10 @@ module _ (o : Option ℕ) {b : Bool} {s : ℕ} {Q : ℕ → Type 0} (e : MatchOp
       by : (o : Option ℕ) → MatchOption o (IsTrue b) Q → b ≡ false → bound o ≤ s
       by None e n = absurd (cc (e, n))
       by (Some off) e n = ltb-false _ off (sym (says off e) ∙ n)
+
+-- no value fits a type above the last
+pub no_type : (y : ℕ) (v : Content) → 4 < y → type_fits y v ≡ false
+no_type y (a_three v) h = rw (ne_eqb y 0 (omega arith), ne_eqb y 1 (omega arith))
+no_type y (a_text l) h = rw (ne_eqb y 2 (omega arith), ne_eqb y 3 (omega arith), ne_eqb y 4 (omega arith))
+no_type y (an_int z) h = ne_eqb y 3 (omega arith)
+no_type y (a_hex g) h = ne_eqb y 4 (omega arith)

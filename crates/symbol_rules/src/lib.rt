@@ -8,25 +8,39 @@ ghost use Rattle.meaning.specs.Base.{Clean, Fault};
 ghost use Rattle.meaning.specs.Base.{when, first_below};
 ghost use Rattle.meaning.specs.Table.{content_in, content_of, value_of, a_text};
 ghost use Rattle.meaning.specs.Values.{prompt_value};
-ghost use Rattle.meaning.specs.Book.{ranges as ranges_of};
+ghost use Rattle.meaning.specs.Book.{ranges as ranges_of, type_of};
 ghost use Rattle.meaning.specs.Rules.{type_fits, same_content, within, broken13_content, three_tests, test10, test14};
 ghost use Rattle.spell.specs.Leaves.{leaf_content};
 ghost use Rattle.symbol_rules.specs.Ranges.{FirstOff};
 
+use fields::SymbolType;
 use meaning::{Outcome, Refusal, Value, refuse_if, refuse_with_if, turns};
 use spell::Leaf;
 use tri::Tri;
 use values::Valued;
 
-// Whether type y takes the value v of table t: m is no boolean's, and an int or a hex may be the empty string.
-fn type_fits(t: &[u8], y: u8, v: Value) -> bool
-    ensures { result ≡ type_fits y (content_in t.now v) }
+// Whether symbol s takes the value v of table t: m is no boolean's, and an int or a hex may be the empty string.
+#[tactic(auto, using(crate::proofs::Laws::no_type))]
+fn type_fits(m: &[u8], t: &[u8], s: usize, v: Value) -> bool
+    requires { s < 65536 }
+    ensures { result ≡ type_fits (type_of m.now s) (content_in t.now v) }
 {
+    let Some(kind) = fields::symbol_type(m, s) else {
+        return false;
+    };
     match v {
-        Value::Three(x) => ((y == 0) & (x != 1)) | (y == 1),
-        Value::Text(at, n) => (y == 2) | (((y == 3) | (y == 4)) & raw::part(t, at, n).is_empty()),
-        Value::Int(_) => y == 3,
-        Value::Hex(_) => y == 4,
+        Value::Three(x) => match kind {
+            SymbolType::Boolean => x != 1,
+            SymbolType::Tristate => true,
+            _ => false,
+        },
+        Value::Text(at, n) => match kind {
+            SymbolType::Text => true,
+            SymbolType::Int | SymbolType::Hex => raw::part(t, at, n).is_empty(),
+            _ => false,
+        },
+        Value::Int(_) => kind == SymbolType::Int,
+        Value::Hex(_) => kind == SymbolType::Hex,
     }
 }
 
@@ -36,7 +50,7 @@ pub fn type_fault(m: &[u8], t: &[u8], s: usize) -> Outcome
     requires { s < 65536 }
     ensures { result ≡ test10 m.now t.now s }
 {
-    let bad = !type_fits(t, fields::type_of(m, s), entries::value(t, s));
+    let bad = !type_fits(m, t, s, entries::value(t, s));
     refuse_if(bad, Refusal::Typed, s)
 }
 
