@@ -154,7 +154,7 @@ fn fill_sets(m: &[u8], ys: &mut [u8])
     ensures { ys.new ≡ full_sets m.now }
 {
     for s in 0..fields::symbols(m) {
-        ys[s] = Set::full(m, s).bits;
+        ys[s] = Set::full(fields::type_of(m, s)).bits;
     }
 }
 

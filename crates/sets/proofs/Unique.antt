@@ -40,7 +40,7 @@ by_bits p q = ap (λ (v : ℕ). record { bits = v }) (p ∙ sym q)
 pub only_once : Once 0 OnlyKinds.ps OnlyKinds.r OnlyReads.Post
 only_once κs a x y s t p q = by_bits p q
 
-pub full_once : Once 1 FullKinds.ps FullKinds.r FullReads.Post
+pub full_once : Once 0 FullKinds.ps FullKinds.r FullReads.Post
 full_once κs a x y s t p q = by_bits p q
 
 pub least_once : Once 0 LeastKinds.ps LeastKinds.r LeastReads.Post

@@ -1,4 +1,4 @@
--- That a room is known has one proof at most, as a fact in a type must: a byte is blank or has a set kept, and never both.
+-- That a room is known has one proof at most, as a fact in a type must: a byte is blank or has a set kept, and never both. Assumes nothing.
 use Rattle.std.specs.Prelude.{ℕ, ◌+◌, ◌<◌, ◌≡◌, List, ◌⊎◌, get_or}
 use Rattle.std.proofs.Common.{ap, inl, inr, arith}
 use Rattle.std.proofs.Props.{props}

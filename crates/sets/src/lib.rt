@@ -61,15 +61,14 @@ impl Set {
         }
     }
 
-    // All that a symbol's type allows.
+    // All that a type allows, by its number: n alone for any but a boolean and a tristate.
     #[tactic(auto, unfolding(meaning::specs::Sets::full))]
-    pub fn full(m: &[u8], s: usize) -> Set
-        requires { s < 2 ^ 32 }
-        ensures { result.bits ≡ full_of (type_of m.now s) }
+    pub fn full(kind: u8) -> Set
+        ensures { result.bits ≡ full_of kind }
     {
-        match fields::symbol_type(m, s) {
-            Some(SymbolType::Boolean) => Set { bits: 5 },
-            Some(SymbolType::Tristate) => Set { bits: 7 },
+        match SymbolType::try_from(kind) {
+            Ok(SymbolType::Boolean) => Set { bits: 5 },
+            Ok(SymbolType::Tristate) => Set { bits: 7 },
             _ => Set { bits: 1 },
         }
     }
