@@ -2,12 +2,12 @@
 use mathlib.Core.Path.{◌≡◌, refl, sym}
 use mathlib.Core.Logic.{⊎_elim}
 use mathlib.Core.Bool.{Bool, true, false, and-false, and-eq-true_iff}
-use Prim.Native.Nat.{ℕ, zero, suc, ◌+◌, ◌<◌}
+use Prim.Native.Nat.{ℕ, zero, suc, ◌+◌, ◌≤◌, ◌<◌}
 use native.Mathlib.Nat.{eq-or-lt_of_le, le_of_suc-le-suc, not-suc-le-zero}
 use native.Mathlib.Omega.{arith}
 use native.Mathlib.Numerals.{add-one}
 use borrow.Author.Tests.{eq-eqb, ne_eqb}
-use Rattle.meaning.specs.Base.{pick, all_below, first_where, count_below}
+use Rattle.meaning.specs.Base.{pick, fold, all_below, first_where, count_below}
 use Rattle.meaning.proofs.Folds.{fold_none, fold_more}
 
 -- ALL: what holds of each
@@ -70,3 +70,13 @@ module _ (p : ℕ → Bool) where
   pub count_more : (k : ℕ) {h : Bool} {x y : ℕ} → x ≡ count_below p k → h ≡ p k → y ≡ pick h 1 0 + x → y ≡ count_below p (k + 1)
   unfolding count_below
   count_more k e eh ey = fold_more _ 0 k e (rw eh at ey)
+
+  -- no more than were looked at
+  pub count_bound : (k : ℕ) → count_below p k ≤ k
+  unfolding count_below fold
+  count_bound zero = omega arith
+  count_bound (suc k) = by (p k) (count_bound k)
+    where
+      by : (b : Bool) {x : ℕ} → x ≤ k → pick b 1 0 + x ≤ suc k
+      by true h = omega arith
+      by false h = omega arith

@@ -2,3 +2,5 @@ pub mod First
 pub mod Folds
 pub mod Below
 pub mod Tests
+pub mod Refused
+pub mod Unique

@@ -3,10 +3,10 @@
 // Everything above this crate is proved against those definitions; all that runs here makes an outcome, and its three numbers.
 #![tactic(auto)]
 
-ghost use Rattle.std.specs.Prelude.{◌≡◌, ◌<◌};
+ghost use Rattle.std.specs.Prelude.{◌≡◌, ◌<◌, Some};
 ghost use Rattle.meaning.specs.declared.Answer.{Answer};
 ghost use Rattle.meaning.specs.Base.{Fault as fault_of, when, answer_of, packed};
-ghost use Rattle.meaning.specs.Numbers.{refusal_number};
+ghost use Rattle.meaning.specs.Numbers.{refusal_number, refusal_of, printed};
 
 use std::fmt;
 use std::marker::Model;
@@ -21,30 +21,31 @@ pub struct Answer {
     pub second: u16,
 }
 
-// What is refused, each by document 01's number.
+// What is refused, each by document 01's number, and any other number as it is.
 #[derive(Clone, Copy, PartialEq, Eq)]
 pub enum Refusal {
-    Length = 1,
-    Section = 2,
-    Record = 3,
-    ModulesSymbol = 4,
-    Contents = 5,
-    Entry = 6,
-    NodeRoom = 7,
-    SymbolRoom = 8,
-    Typed = 10,
-    Lower = 11,
-    Upper = 12,
-    Default = 13,
-    Range = 14,
-    One = 15,
-    Kind = 16,
-    Mandatory = 17,
-    Modules = 18,
-    Head = 21,
-    Tree = 22,
-    Leaf = 23,
-    Met = 24,
+    Length,
+    Section,
+    Record,
+    ModulesSymbol,
+    Contents,
+    Entry,
+    NodeRoom,
+    SymbolRoom,
+    Typed,
+    Lower,
+    Upper,
+    Default,
+    Range,
+    One,
+    Kind,
+    Mandatory,
+    Modules,
+    Head,
+    Tree,
+    Leaf,
+    Met,
+    Other(u16),
 }
 
 impl Refusal {
@@ -52,14 +53,70 @@ impl Refusal {
     pub fn number(self) -> u16
         ensures { result ≡ refusal_number self }
     {
-        self as u16
+        match self {
+            Refusal::Length => 1,
+            Refusal::Section => 2,
+            Refusal::Record => 3,
+            Refusal::ModulesSymbol => 4,
+            Refusal::Contents => 5,
+            Refusal::Entry => 6,
+            Refusal::NodeRoom => 7,
+            Refusal::SymbolRoom => 8,
+            Refusal::Typed => 10,
+            Refusal::Lower => 11,
+            Refusal::Upper => 12,
+            Refusal::Default => 13,
+            Refusal::Range => 14,
+            Refusal::One => 15,
+            Refusal::Kind => 16,
+            Refusal::Mandatory => 17,
+            Refusal::Modules => 18,
+            Refusal::Head => 21,
+            Refusal::Tree => 22,
+            Refusal::Leaf => 23,
+            Refusal::Met => 24,
+            Refusal::Other(number) => number,
+        }
+    }
+}
+
+// What a number refuses.
+impl From<u16> for Refusal {
+    ghost from_gives = { λ n r. r ≡ refusal_of n };
+
+    #[tactic(auto, unfolding(crate::specs::Numbers::refusal_of))]
+    fn from(number: u16) -> Refusal {
+        match number {
+            1 => Refusal::Length,
+            2 => Refusal::Section,
+            3 => Refusal::Record,
+            4 => Refusal::ModulesSymbol,
+            5 => Refusal::Contents,
+            6 => Refusal::Entry,
+            7 => Refusal::NodeRoom,
+            8 => Refusal::SymbolRoom,
+            10 => Refusal::Typed,
+            11 => Refusal::Lower,
+            12 => Refusal::Upper,
+            13 => Refusal::Default,
+            14 => Refusal::Range,
+            15 => Refusal::One,
+            16 => Refusal::Kind,
+            17 => Refusal::Mandatory,
+            18 => Refusal::Modules,
+            21 => Refusal::Head,
+            22 => Refusal::Tree,
+            23 => Refusal::Leaf,
+            24 => Refusal::Met,
+            _ => Refusal::Other(number),
+        }
     }
 }
 
 // The first fault that a check finds: what is refused, at which place and second place. In clauses it is its three numbers.
-#[derive(Drop)]
+#[derive(Clone, Copy)]
 pub struct Fault {
-    refusal: Refusal,
+    number: u16,
     place: u16,
     second: u16,
 }
@@ -67,7 +124,9 @@ pub struct Fault {
 impl Model for Fault {
     ghost Value = { Answer };
 
-    ghost view = { λ f. record { number = refusal_number f.refusal; place = f.place; second = f.second } };
+    ghost view = { λ f. record { number = f.number; place = f.place; second = f.second } };
+
+    ghost inverse = { λ a. record { number = a.number; place = a.place; second = a.second } };
 }
 
 // What a check finds: nothing, or the first fault.
@@ -79,17 +138,19 @@ impl Fault {
         ensures { result ≡ self.now }
     {
         Answer {
-            number: self.refusal.number(),
+            number: self.number,
             place: self.place,
             second: self.second,
         }
     }
 
     // What is refused.
+    #[tactic(auto, using(crate::proofs::Refused::number_back))]
     pub fn refusal(&self) -> Refusal
-        ensures { refusal_number result ≡ self.now.number }
+        ensures named { result ≡ refusal_of self.now.number }
+        ensures number { refusal_number result ≡ self.now.number }
     {
-        self.refusal
+        Refusal::from(self.number)
     }
 }
 
@@ -107,7 +168,7 @@ pub fn refuse_with(refusal: Refusal, place: usize, second: usize) -> Outcome
     ensures { result ≡ fault_of (refusal_number refusal) place second }
 {
     Err(Fault {
-        refusal,
+        number: refusal.number(),
         place: place as u16,
         second: second as u16,
     })
@@ -151,6 +212,8 @@ impl From<Outcome> for Answer {
 
 // An answer's three numbers with a space between.
 impl fmt::Display for Answer {
+    ghost output = { λ a. Some (printed a) };
+
     fn fmt<W: fmt::Write>(&self, f: &mut fmt::Formatter<W>) -> fmt::Result {
         write!(f, "{} {} {}", self.number, self.place, self.second)
     }
