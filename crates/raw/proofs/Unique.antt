@@ -13,6 +13,8 @@ use Rattle.raw.proofs.put.Kinds as PutKinds
 use Rattle.raw.proofs.put.Reads as PutReads
 use Rattle.raw.proofs.part.Kinds as PartKinds
 use Rattle.raw.proofs.part.Reads as PartReads
+use Rattle.raw.proofs.fault_if.Kinds as FaultIfKinds
+use Rattle.raw.proofs.fault_if.Reads as FaultIfReads
 use Rattle.raw.proofs.same.Kinds as SameKinds
 use Rattle.raw.proofs.same.Reads as SameReads
 
@@ -36,3 +38,6 @@ part_once κs a x y s t p q = p ∙ sym q
 
 pub same_once : Once 2 SameKinds.ps SameKinds.r SameReads.Post
 same_once κs a x y s t p q = p ∙ sym q
+
+pub fault_if_once : Once 0 FaultIfKinds.ps FaultIfKinds.r FaultIfReads.Post
+fault_if_once κs a x y s t p q = p ∙ sym q

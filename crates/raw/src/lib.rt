@@ -4,7 +4,9 @@
 #![tactic(auto)]
 
 ghost use Rattle.std.specs.Prelude.{◌≡◌, ◌+◌, ◌*◌, ◌<◌, get_or, set};
-ghost use Rattle.meaning.specs.Base.{half as half_of, word as word_of, part as part_of, same_text};
+ghost use Rattle.meaning.specs.Base.{Fault, when, half as half_of, word as word_of, part as part_of, same_text};
+
+use meaning::{Outcome, Refusal, refuse_with_if};
 
 // The byte at i.
 pub fn byte(s: &[u8], i: usize) -> u8
@@ -78,4 +80,13 @@ pub fn same(a: &[u8], b: &[u8]) -> bool
     ensures { result ≡ same_text a.now b.now }
 {
     a == b
+}
+
+// A fault where `bad` holds, for whoever has its number and not the refusal's name.
+#[tactic(auto, using(meaning::proofs::Refused::number_back))]
+pub fn fault_if(bad: bool, number: u16, place: usize, second: usize) -> Outcome
+    requires { (place < 65536) × (second < 65536) }
+    ensures { result ≡ when bad (Fault number place second) }
+{
+    refuse_with_if(bad, Refusal::from(number), place, second)
 }
