@@ -3,10 +3,11 @@
 // Total over any bytes. A number is spelled into a buffer of 14 bytes, from its end.
 #![tactic(auto)]
 
-ghost use Rattle.std.specs.Prelude.{◌≡◌, ◌<◌, ◌≤◌, ℕ, List, [], ◌∷◌, length, drop};
+ghost use Rattle.std.specs.Prelude.{◌≡◌, ◌<◌, ◌≤◌, ◌-◌, ℕ, List, [], ◌∷◌, ◌++◌, length, take, drop, replicate};
 ghost use Rattle.std.specs.Fn.{FnOnceReturnsAt};
 ghost use Rattle.meaning.specs.Base.{same_text};
 ghost use Rattle.meaning.specs.Spell.{digit, digits, letter, spelled_int, spelled_hex};
+ghost use Rattle.spell.specs.Whole.{at_is, bytes_are};
 ghost use Rattle.spell.specs.Leaves.{spelled_leaf, leaf_of_value};
 
 use meaning::Value;
@@ -34,8 +35,8 @@ fn digit_of(d: u32) -> u8
     }
 }
 
-// A number's spelling: the bytes from `at` on. What is put in front of it stands there.
-#[derive(Drop)]
+// A number's spelling: the bytes from `at` on. What is put in front of it stands there; before that each byte is 0.
+#[derive(Clone, Copy)]
 pub struct Spelling {
     bytes: [u8; 14],
     at: usize,
@@ -46,7 +47,14 @@ impl Model for Spelling {
 
     ghost view = { λ s. drop s.at s.bytes };
 
-    ghost invariant = { λ s. s.at ≤ 14 };
+    ghost inverse = { λ l. record { bytes = replicate (14 - length l) 0 ++ l; at = 14 - length l } };
+
+    ghost inverse_ok = { λ s h i. record {
+      bytes = bytes_are s.bytes s.at h.0 h.1 h.2 i;
+      at = at_is s.bytes s.at h.0 h.1 i;
+    } };
+
+    ghost invariant = { λ s. (s.at ≤ 14) × (length s.bytes ≡ 14) × (take s.at s.bytes ≡ replicate s.at 0) };
 }
 
 impl Spelling {
