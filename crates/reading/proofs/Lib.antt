@@ -1,1 +1,2 @@
 mod Reading
+pub mod Unique
