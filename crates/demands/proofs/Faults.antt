@@ -18,6 +18,12 @@ module _ {n p s n' p' s' : ℕ} (e : Fault n p s ≡ Fault n' p' s') where
   pub same_number : n ≡ n'
   same_number = ap (λ o. (answer_of o).number) e
 
+  pub same_place : p ≡ p'
+  same_place = ap (λ o. (answer_of o).place) e
+
+  pub same_second : s ≡ s'
+  same_second = ap (λ o. (answer_of o).second) e
+
 pub same_fault : {n p s n' p' s' : ℕ} → n ≡ n' → p ≡ p' → s ≡ s' → Fault n p s ≡ Fault n' p' s'
 same_fault e f g = cc
 

@@ -8,6 +8,7 @@ use lib.Dec.{ltb}
 use lib.ListN.{get_or, length, drop, length-take}
 use borrow.Author.Tests.{ltb-true}
 use Rattle.meaning.specs.Base.{part}
+use Rattle.meaning.specs.Book.{width}
 
 -- each number of a list is below b
 abbrev all_small : ℕ → List ℕ → Bool
@@ -22,6 +23,9 @@ small_at b (x ∷ l) h e i = by (ltb x b) refl e (small_at b l h) i
     by true q f rest zero = ltb-true x b q
     by true q f rest (suc i) = rest f i
     by false q f rest i = absurd (false≢true f)
+
+pub width_small : (k : ℕ) → width k < 9
+width_small k = small_at 9 (0 ∷ 8 ∷ 6 ∷ 6 ∷ 6 ∷ 8 ∷ 8 ∷ 2 ∷ 1 ∷ []) (omega arith) refl k
 
 pub part_small : (m : List ℕ) (at n : ℕ) → length (part m at n) ≤ n
 unfolding part
