@@ -1,7 +1,7 @@
 -- One text written behind another, how long a name can be, and the line from its parts. Assumes nothing.
-use mathlib.Core.Path.{◌≡◌, sym, ◌∙◌, ap}
-use mathlib.Core.Bool.{Bool, true, false}
-use lib.Dec.{ltb}
+use mathlib.Core.Path.{◌≡◌, refl, sym, ◌∙◌, ap}
+use mathlib.Core.Bool.{Bool, true, false, ◌&&◌, ◌||◌}
+use lib.Dec.{ltb, leb, eqb}
 use mathlib.Core.List.{List, [], ◌∷◌, ◌++◌, append_assoc}
 use Prim.Native.Nat.{ℕ, ◌+◌, ◌*◌, ◌≤◌, ◌<◌}
 use native.Mathlib.Omega.{arith}
@@ -10,6 +10,10 @@ use lib.Seq.{length-take-le, take_at, drop_at, drop-drop}
 use borrow.Author.Tests.{lt-ltb, le-ltb}
 use Rattle.meaning.specs.declared.Answer.{Answer}
 use Rattle.meaning.specs.Base.{Outcome}
+use Rattle.meaning.specs.declared.Refusal.{Refusal}
+use Rattle.meaning.specs.declared.Refusal.TheVariants.{Typed, Lower, Upper, Default, Range, One, Kind, Modules}
+use Rattle.meaning.specs.Numbers.{refusal_of}
+use Rattle.std.proofs.lemmas.Bool.Decides.{nat_tests}
 use Rattle.std.specs.Prelude.{Ok, Err}
 use Rattle.meaning.specs.Base.{pick, half, part, if_clean, answer_of}
 use Rattle.meaning.specs.Book.{name_of, byte_in, book_fault, symbols, start, width, spelled_name, name_length, name_start}
@@ -116,3 +120,30 @@ module _ (i w o : List ℕ) {m : ℕ} {model table : List ℕ} (em : m ≡ model
             fits = inside o z;
             works = works_is;
           }
+
+-- WHOM AN OUTCOME NAMES: none, where what is refused is none of the rules that name a symbol
+named_apart : (n k : ℕ) (r : Refusal) → refusal_of k ≡ r → (refusal_of n ≡ r → ⊥) → n ≡ k → ⊥
+named_apart n k r e f q = f (rw q e)
+
+none_named :
+    (n p s : ℕ)
+    → (n ≡ 10 → ⊥) → (n ≡ 11 → ⊥) → (n ≡ 12 → ⊥) → (n ≡ 13 → ⊥) → (n ≡ 14 → ⊥) → (n ≡ 15 → ⊥) → (n ≡ 16 → ⊥) → (n ≡ 18 → ⊥)
+    → 65535 ≡ pick ((leb 10 n && leb n 14) || eqb n 18) p (pick (eqb n 15 || eqb n 16) s 65535)
+none_named n p s a b c d e f g h = grind (arith, nat_tests)
+
+pub no_offender :
+    (f : Answer) {r : Refusal}
+    → r ≡ refusal_of f.number
+    → (r ≡ Typed → ⊥) → (r ≡ Lower → ⊥) → (r ≡ Upper → ⊥) → (r ≡ Default → ⊥) → (r ≡ Range → ⊥) → (r ≡ One → ⊥) → (r ≡ Kind → ⊥) → (r ≡ Modules → ⊥)
+    → 65535 ≡ offender (Err f)
+unfolding refusal_of
+no_offender f er a b c d e g h i =
+    none_named f.number f.place f.second
+    (named_apart f.number 10 Typed refl (rw er at a))
+    (named_apart f.number 11 Lower refl (rw er at b))
+    (named_apart f.number 12 Upper refl (rw er at c))
+    (named_apart f.number 13 Default refl (rw er at d))
+    (named_apart f.number 14 Range refl (rw er at e))
+    (named_apart f.number 15 One refl (rw er at g))
+    (named_apart f.number 16 Kind refl (rw er at h))
+    (named_apart f.number 18 Modules refl (rw er at i))

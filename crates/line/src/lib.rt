@@ -30,6 +30,7 @@ fn rest(s: &[u8], at: usize) -> &[u8]
 
 // The symbol that an outcome names: at the place or at the second place, by what is refused. 65535 for none, as in the definitions of `offender` and
 // of the name that it is handed on to.
+#[tactic(auto, using(crate::proofs::Laws::no_offender))]
 fn offender_of(outcome: &Outcome) -> usize
     ensures { result ≡ offender outcome.now }
 {
