@@ -51,8 +51,18 @@ unfolding every all_below
 every_same a h = rw (h 0, h 1, h 2)
 
 -- the tests of four nested picks
-abbrev pub picked : (ℕ → ℕ → ℕ → ℕ → Bool) → ℕ → ℕ → ℕ → ℕ → Bool
-picked t a b c e = every a (λ v. every b (λ p. every c (λ d. every e (t v p d))))
+module _ (t : ℕ → ℕ → ℕ → ℕ → Bool) where
+  abbrev pub on3 : ℕ → ℕ → ℕ → ℕ → Bool
+  on3 e v p d = every e (t v p d)
+
+  abbrev pub on2 : ℕ → ℕ → ℕ → ℕ → Bool
+  on2 c e v p = every c (on3 e v p)
+
+  abbrev pub on1 : ℕ → ℕ → ℕ → ℕ → Bool
+  on1 b c e v = every b (on2 c e v)
+
+  abbrev pub picked : ℕ → ℕ → ℕ → ℕ → Bool
+  picked a b c e = every a (on1 b c e)
 
 -- EACH RULE's closing, from every pick of what it reads
 module _ (m ys ss : List ℕ) (s : ℕ) {a low : ℕ} (ea : a ≡ sat ys s) (el : low ≡ lower_set m ys ss s) where

@@ -48,49 +48,51 @@ impl TryFrom<u8> for Mark {
     }
 }
 
-// Whether a test holds under every pick of a value from a set.
+// Whether a test holds under every pick of a value from a set: left by label at the first where it does not.
 fn every<F: Fn(u8) -> bool>(set: Set, holds: F) -> bool
     requires { F.IsAlwaysCallable holds }
     ensures { (p : ℕ → Bool) → Tells (F.post holds) p → result ≡ every set.bits p }
 {
-    for v in 0u8..3 {
+    let mut all = true;
+    'values: for v in 0u8..3 {
         if set.has(v) {
             if !holds(v) {
-                return false;
+                all = false;
+                break 'values;
             }
         }
     }
-    true
+    all
 }
 
-// Whether a test holds under every pick of four values, each from a set of its own. What a rule does not read is picked from {n}.
+// Whether a test holds under every pick of four values, each from a set of its own, left by label at the first where it does not. What a rule
+// does not read is picked from {n}.
 fn every_pick<F: Fn(u8, u8, u8, u8) -> bool>(a: Set, b: Set, c: Set, e: Set, holds: F) -> bool
     requires { F.IsAlwaysCallable holds }
     ensures { (t : ℕ → ℕ → ℕ → ℕ → Bool) → TellsPick (F.post holds) t → result ≡ every a.bits (λ v. every b.bits (λ p. every c.bits (λ d. every e.bits (t v p d)))) }
 {
-    every(
-        a,
-        |v|
-            requires { F.IsAlwaysCallable holds }
-            ensures { (t : ℕ → ℕ → ℕ → ℕ → Bool) → TellsPick (F.post holds) t → v < 3 → result ≡ every b.bits (λ p. every c.bits (λ d. every e.bits (t v p d))) }
-        {
-            every(
-                b,
-                |p|
-                    requires { F.IsAlwaysCallable holds }
-                    ensures { (t : ℕ → ℕ → ℕ → ℕ → Bool) → TellsPick (F.post holds) t → v < 3 → p < 3 → result ≡ every c.bits (λ d. every e.bits (t v p d)) }
-                {
-                    every(
-                        c,
-                        |d|
-                            requires { F.IsAlwaysCallable holds }
-                            ensures { (t : ℕ → ℕ → ℕ → ℕ → Bool) → TellsPick (F.post holds) t → v < 3 → p < 3 → d < 3 → result ≡ every e.bits (t v p d) }
-                        { every(e, |l| holds(v, p, d, l)) },
-                    )
-                },
-            )
-        },
-    )
+    let mut all = true;
+    'picks: for v in 0u8..3 {
+        if a.has(v) {
+            for p in 0u8..3 {
+                if b.has(p) {
+                    for d in 0u8..3 {
+                        if c.has(d) {
+                            for l in 0u8..3 {
+                                if e.has(l) {
+                                    if !holds(v, p, d, l) {
+                                        all = false;
+                                        break 'picks;
+                                    }
+                                }
+                            }
+                        }
+                    }
+                }
+            }
+        }
+    }
+    all
 }
 
 // How many members of choice c are at least k, each by one bound of what it may be.

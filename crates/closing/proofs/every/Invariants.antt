@@ -6,5 +6,5 @@ use Prim.Native.Nat.{ℕ}
 use mathlib.Core.Path.{◌≡◌}
 use Rattle.closing.proofs.every.Given as goal
 
-abbrev pub invariant-loop-v : goal.invariant-loop-v
-invariant-loop-v g l = (p : ℕ → Bool) → Tells (goal.F-post g l.holds) p → till l.set.bits p l.v ≡ true
+abbrev pub invariant-values : goal.invariant-values
+invariant-values g l = (l.all ≡ true) × ((p : ℕ → Bool) → Tells (goal.F-post g l.holds) p → till l.set.bits p l.v ≡ true)
