@@ -483,18 +483,18 @@ impl<'a> Path<'a> {
         ensures set { result.bits ≡ among self.now.m.now self.now.ys.now (i + 1) i }
         ensures small { 4 < op_of self.now.m.now i → result.bits < 8 }
     {
+        if fields::is_leaf(self.m, i) {
+            return leaf_set(self.m, self.ys, i);
+        }
         let left = fields::left_of(self.m, i);
         let right = fields::right_of(self.m, i);
         match fields::node_op(self.m, i) {
-            Some(Op::Constant | Op::Symbol | Op::Text | Op::Int | Op::Hex) => leaf_set(
-                self.m, self.ys, i,
-            ),
             Some(Op::Not) => self.operand_at(i, left).opposite(),
             Some(Op::And) => self.operand_at(i, left).both(self.operand_at(i, right)),
             Some(Op::Or) => self.operand_at(i, left).either(self.operand_at(i, right)),
             Some(Op::Equal) => equal_set(self.m, self.ys, left, right),
             Some(Op::Unequal) => equal_set(self.m, self.ys, left, right).opposite(),
-            None => Set::N,
+            _ => Set::N,
         }
     }
 

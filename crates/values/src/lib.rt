@@ -90,16 +90,18 @@ fn node_value(m: &[u8], t: &[u8], done: &[u8], i: usize) -> Tri
     requires { i < 2 ^ 32 }
     ensures { result.v ≡ node_value m.now t.now done.now i }
 {
+    if fields::is_leaf(m, i) {
+        return leaf_value(m, t, i);
+    }
     let left = fields::left_of(m, i);
     let right = fields::right_of(m, i);
     match fields::node_op(m, i) {
-        Some(Op::Constant | Op::Symbol | Op::Text | Op::Int | Op::Hex) => leaf_value(m, t, i),
         Some(Op::Not) => at(done, left).not(),
         Some(Op::And) => at(done, left).and(at(done, right)),
         Some(Op::Or) => at(done, left).or(at(done, right)),
         Some(Op::Equal) => equal(m, t, left, right),
         Some(Op::Unequal) => equal(m, t, left, right).not(),
-        None => Tri::N,
+        _ => Tri::N,
     }
 }
 
