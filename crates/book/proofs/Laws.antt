@@ -1,19 +1,18 @@
--- Well-formed choices take the members in turn; what the first member record that is old says of each member up to it; and what a name is, case by case. Assumes nothing.
+-- Well-formed choices take the members in turn; what the first member record that is old says of each member up to it. Assumes nothing.
 use mathlib.Core.Path.{◌≡◌, refl, sym, ◌∙◌}
 use mathlib.Core.Bool.{Bool, true, false, ◌&&◌, not, true≢false, and-eq-true_iff}
-use mathlib.Core.List.{List, []}
+use mathlib.Core.List.{List}
 use Prim.Native.Nat.{ℕ, ◌+◌, ◌-◌, ◌≤◌, ◌<◌}
 use native.Mathlib.Omega.{arith}
 use native.Mathlib.Numerals.{add-one}
 use lib.Dec.{eqb, leb, ltb}
 use lib.ListN.{get_or}
-use borrow.Author.Tests.{leb-true, eqb-true, eqb-false, ltb-true, ltb-false, not-false, lt-ltb, le-ltb}
-use Rattle.std.specs.Prelude.{is_err}
+use borrow.Author.Tests.{leb-true, eqb-true, eqb-false, ltb-true, ltb-false, not-false}
 use Rattle.meaning.specs.Base.{Clean, Fault}
 use Rattle.meaning.specs.Base.{Outcome}
-use Rattle.meaning.specs.Base.{pick, half, when, first_below}
-use Rattle.meaning.specs.Book.{count, symbols, nodes, choices, members, type_of, choice_kind, mandatory_of, choice_prompt, member_due, first_member, member_count, member_symbol, choice_ok, new_member, member_ok, record_ok, record_at, section_fault, section_after, member_at, choice_members_fault, spelled_name, book_fault, name_of}
-use Rattle.meaning.proofs.First.{clean_all, when_iff, a_fault, no_err, if_err}
+use Rattle.meaning.specs.Base.{half, when, first_below}
+use Rattle.meaning.specs.Book.{count, symbols, nodes, choices, members, type_of, choice_kind, mandatory_of, choice_prompt, member_due, first_member, member_count, member_symbol, choice_ok, new_member, member_ok, record_ok, record_at, section_fault, section_after, member_at, choice_members_fault}
+use Rattle.meaning.proofs.First.{clean_all, when_iff, a_fault}
 use Rattle.members.specs.Old.{FirstOld}
 use Rattle.book.specs.Turns.{Turn, InTurn}
 
@@ -96,17 +95,3 @@ module _ (m : List ℕ) {old : ℕ} (first : FirstOld m old) where
   pub due_more : (c : ℕ) {r : Outcome} → member_due m c ≤ old → Turn m c → r ≡ choice_members_fault m c → r ≡ Clean → member_due m (c + 1) ≤ old
   unfolding member_due choice_members_fault
   due_more c le turn er clean = rw (add-one c) (clean_before c (member_count m c) (sym er ∙ clean) (omega (arith, turn.0)) turn.1)
-
--- THE NAME: of a bad book, of no symbol, of a symbol
-module _ (m : List ℕ) (s : ℕ) {r : Outcome} (er : r ≡ book_fault m) where
-  pub name_bad : is_err r ≡ true → [] ≡ name_of m s
-  unfolding name_of
-  name_bad h = rw er at (if_err r (pick (ltb s (symbols m)) (spelled_name m s) []) [] h)
-
-  pub name_past : {c : ℕ} → is_err r ≡ false → c ≡ symbols m → c ≤ s → [] ≡ name_of m s
-  unfolding name_of
-  name_past {c} f e le = rw (← er, no_err r f, ← e, le-ltb s c le)
-
-  pub name_is : {c : ℕ} {l : List ℕ} → is_err r ≡ false → c ≡ symbols m → s < c → l ≡ spelled_name m s → l ≡ name_of m s
-  unfolding name_of
-  name_is {c} f e lt h = rw (← er, no_err r f, ← e, lt-ltb s c lt) h

@@ -176,6 +176,7 @@ pub fn fault(m: &[u8]) -> Outcome
 }
 
 // The name of a symbol, as the part of the book that spells it: empty for a number that is no symbol's, and for a bad book.
+#[tactic(auto, unfolding(meaning::specs::Book::name_of))]
 pub fn name(model: &[u8], index: usize) -> &[u8]
     ensures { result.now ≡ name_of model.now index }
 {

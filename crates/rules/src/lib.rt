@@ -51,6 +51,7 @@ pub fn fault(x: &Valued) -> Outcome
 
 // What the table check does after the book: 0, 5 to 7 and 10 to 18. Refused at 5 to 7 the node work stays, else it has each node's
 // value in front.
+#[tactic(auto, using(crate::proofs::Laws::in_front), unfolding(meaning::specs::Rules::verdict_in, meaning::specs::Rules::refusal_in, meaning::specs::Rules::node_room_fault, meaning::specs::Rules::rule_fault, meaning::specs::Rules::node_work_in, meaning::specs::Base::when, meaning::specs::Base::or_else))]
 pub fn check_in(model: &[u8], table: &[u8], work: &mut [u8]) -> Outcome
     ensures { CheckedIn model.now table.now work.old result work.new }
 {
@@ -68,6 +69,7 @@ pub fn check_in(model: &[u8], table: &[u8], work: &mut [u8]) -> Outcome
 }
 
 // The table check: 0 to 7 and 10 to 18. Refused at 1 to 7 the node work stays, else it has each node's value in front.
+#[tactic(auto, unfolding(meaning::specs::Rules::verdict, meaning::specs::Rules::node_work, meaning::specs::Base::or_else))]
 pub fn check(model: &[u8], table: &[u8], work: &mut [u8]) -> Outcome
     ensures { Checked model.now table.now work.old result work.new }
 {

@@ -155,7 +155,8 @@ pub fn first_off(x: &Valued) -> Option<usize>
     let mut first = None;
     for r in 0..fields::ranges(x.model) {
         let s = fields::range_symbol(x.model, r);
-        if first.is_none_or(|off| s < off) && range_at(x, s, r).is_err() {
+        let earlier = first.is_none_or(|off| s < off);
+        if earlier && range_at(x, s, r).is_err() {
             first = Some(s);
         }
     }

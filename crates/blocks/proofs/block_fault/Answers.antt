@@ -2,10 +2,8 @@
 use Rattle.std.proofs.Common.{rules, ◌≡◌, ◌+◌, ◌-◌, ℕ, arith}
 use mathlib.Core.Path.{◌∙◌, refl}
 use Prim.Native.Nat.{suc}
-use lib.Dec.{ltb}
 use lib.ListN.{length-set}
 use Rattle.tri.specs.Three.{or_of}
-use Rattle.meaning.specs.Base.{pick}
 use Rattle.meaning.specs.Values.{given, condition_value, lower_step, default_step}
 use Rattle.meaning.proofs.First.{clean_more, place_fault}
 use Rattle.blocks.proofs.Laws.{rows_none, rows_more, rows_same, lower_step_lem, first_step, lower_at, first_at}
@@ -43,7 +41,7 @@ loop-d-preserved-in-Some-place c =
     let cond : ℕ → ℕ = condition_value x.model.now x.work.now in
     let stands = rw c.in-Some-place.is at c.place-in-loop-d.ensures in
     let turn : n - (loop.d - 1) ≡ n - loop.d + 1 = omega arith in
-    (simp length-set loop.invariant.0, rw turn (rows_more (default_step x.model.now cond suc) c.args.base loop.first (n - loop.d) (λ y. pick (ltb 0 (cond (loop.d - 1))) (loop.d - 1 + 1) y) c.default_symbol_from.result (first_step x.model.now x.work.now (n - loop.d) c.defaults-defaults.ensures.0 (omega arith) c.default_symbol_from.ensures.0) loop.invariant.1 stands.0.0 stands.1 c.covered.ensures loop.invariant.0))
+    (simp length-set loop.invariant.0, rw turn (rows_more (default_step x.model.now cond suc) c.args.base loop.first (n - loop.d) _ c.default_symbol_from.result (first_step x.model.now x.work.now (n - loop.d) c.defaults-defaults.ensures.0 (omega arith) c.default_symbol_from.ensures.0) loop.invariant.1 stands.0.0 stands.1 c.covered.ensures loop.invariant.0))
 
 pub loop-d-preserved : goal.loop-d-preserved
 loop-d-preserved c =
@@ -52,7 +50,7 @@ loop-d-preserved c =
     let n = c.defaults-defaults.result in
     let cond : ℕ → ℕ = condition_value x.model.now x.work.now in
     let turn : n - (loop.d - 1) ≡ n - loop.d + 1 = omega arith in
-    (loop.invariant.0, rw turn (rows_same (default_step x.model.now cond suc) c.args.base loop.first (n - loop.d) (λ y. pick (ltb 0 (cond (loop.d - 1))) (loop.d - 1 + 1) y) c.default_symbol_from.result (first_step x.model.now x.work.now (n - loop.d) c.defaults-defaults.ensures.0 (omega arith) c.default_symbol_from.ensures.0) loop.invariant.1 (rw c.in_default-place.is at c.place-in-loop-d.ensures)))
+    (loop.invariant.0, rw turn (rows_same (default_step x.model.now cond suc) c.args.base loop.first (n - loop.d) _ c.default_symbol_from.result (first_step x.model.now x.work.now (n - loop.d) c.defaults-defaults.ensures.0 (omega arith) c.default_symbol_from.ensures.0) loop.invariant.1 (rw c.in_default-place.is at c.place-in-loop-d.ensures)))
 
 pub own_fault-requires : goal.own_fault-requires
 own_fault-requires c =
