@@ -1,5 +1,6 @@
 -- The walk meets its contract: a split's branches are walked in turn, each with one value in the symbol's place, and the last store puts back what was there.
 use Rattle.findings.proofs.Walks.{stays, no_split, in_finding, all_branches, turns_none, turn-walked, turn_skipped, still_same, same_size, put_back}
+use borrow.Author.Rules.{of_calls}
 use borrow.Author.Tests.{ltb-true}
 use lib.Dec.{ltb}
 use native.Mathlib.Omega.{arith}
@@ -13,17 +14,22 @@ use Rattle.findings.proofs.+branch_split.Goals.{split-then-has, split-else-has}
 
 pub branch-returns-in_err-at : goal.branch-returns-in_err-at
 branch-returns-in_err-at t c =
+    let stopped : c.args.from ≡ Err c.in_err-at.field-0.0 = grind (arith, of_calls, c.in_err-at.was) in
     let same : c.from_residual.result ≡ Err c.in_err-at.field-0.0 = search rules in
-    (rw c.in_err-at.was (same ∙ stays c.args.m.now.now c.args.f.now.now c.args.ys.now c.args.left _), refl, refl)
+    (rw stopped (same ∙ stays c.args.m.now.now c.args.f.now.now c.args.ys.now c.args.left _), refl, refl)
 
 pub branch-split-requires : goal.branch-split-requires
 branch-split-requires t c = (omega arith, (ltb-true 0 c.args.left (and_elim_left (ltb 0 c.args.left) c.splits.result c.if-left-splits.true), sym c.splits.ensures ∙ and_elim_right (ltb 0 c.args.left) c.splits.result c.if-left-splits.true, c.requires.0, c.requires.1))
 
 pub branch-returns-then-left-splits : goal.branch-returns-then-left-splits
-branch-returns-then-left-splits t c = (rw c.in_ok-at.was c.split.ensures.0, c.split.ensures.1, c.split.ensures.2)
+branch-returns-then-left-splits t c =
+    let going : c.args.from ≡ Ok c.in_ok-at.at = grind (arith, of_calls, c.in_ok-at.was) in
+    (rw going c.split.ensures.0, c.split.ensures.1, c.split.ensures.2)
 
 pub branch-returns : goal.branch-returns
-branch-returns t c = (rw c.in_ok-at.was (c.leaf.ensures.0 ∙ no_split c.args.m.now.now c.args.f.now.now c.args.ys.now c.args.left _ c.splits.ensures c.if-left-splits.false), c.leaf.ensures.1, c.leaf.ensures.2)
+branch-returns t c =
+    let going : c.args.from ≡ Ok c.in_ok-at.at = grind (arith, of_calls, c.in_ok-at.was) in
+    (rw going (c.leaf.ensures.0 ∙ no_split c.args.m.now.now c.args.f.now.now c.args.ys.now c.args.left _ c.splits.ensures c.if-left-splits.false), c.leaf.ensures.1, c.leaf.ensures.2)
 
 pub split-overflow_add-reached : goal.split-overflow_add-reached
 split-overflow_add-reached t c = omega (arith, (in_finding c.args.m.now.now c.args.f.now.now c.args.ys.now c.args.at c.requires.1), c.requires.2)

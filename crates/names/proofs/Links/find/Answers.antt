@@ -1,5 +1,6 @@
 -- `names::Links::find` meets its contract: from where the walk stands on, no name is this one, and each turn goes down by one at least.
 use Rattle.std.proofs.Common.{◌≡◌, ◌+◌, arith, sym, ◌∙◌}
+use Rattle.std.proofs.lemmas.Grind.{common_steps}
 use Rattle.meaning.proofs.Tests.{same_text_lem}
 use Rattle.names.proofs.Laws.{headed_at, start_le, walk_from, none_after, texts_differ, walk_less, walk_on, walk_passed}
 use Rattle.names.proofs.Links.find.Goals as goal
@@ -25,7 +26,7 @@ returns-then-same-clause-found c =
 pub loop-j-smaller : goal.loop-j-smaller
 loop-j-smaller c =
     let self = c.args.self.now in
-    walk_less self.block.m.now self.block.base self.rooms.now.nexts c.args.name.now self.factor c.loop-j.c c.in-Some.j (omega (arith, c.in-Some.ensures)) c.loop-j.invariant.walk c.from-c-in-Some.ensures
+    walk_less self.block.m.now self.block.base self.rooms.now.nexts c.args.name.now self.factor c.loop-j.c c.in-Some.j (grind (arith, common_steps, c.in-Some.ensures)) c.loop-j.invariant.walk c.from-c-in-Some.ensures
 
 pub loop-j-preserved : goal.loop-j-preserved
 loop-j-preserved c =
@@ -34,7 +35,7 @@ loop-j-preserved c =
     let base = self.block.base in
     let name = c.args.name.now in
     let loop = c.loop-j in
-    let here : loop.c ≡ c.in-Some.j + 1 = omega (arith, c.in-Some.ensures) in
+    let here : loop.c ≡ c.in-Some.j + 1 = grind (arith, common_steps, c.in-Some.ensures) in
     let step = c.from-c-in-Some.ensures in
     let less = walk_less m base self.rooms.now.nexts name self.factor loop.c c.in-Some.j here loop.invariant.walk step in
     record {
