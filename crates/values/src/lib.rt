@@ -85,22 +85,25 @@ fn equal(m: &[u8], t: &[u8], i: usize, j: usize) -> Tri
 }
 
 // The value of node i, from the values `done` of those before it.
-#[tactic(auto, unfolding(meaning::specs::Values::node_value))]
+#[tactic(auto, unfolding(meaning::specs::Values::node_value, meaning::specs::Values::leaf_of))]
 fn node_value(m: &[u8], t: &[u8], done: &[u8], i: usize) -> Tri
     requires { i < 2 ^ 32 }
     ensures { result.v ≡ node_value m.now t.now done.now i }
 {
-    if fields::is_leaf(m, i) {
-        return leaf_value(m, t, i);
-    }
+    let op = match fields::node_op(m, i) {
+        Some(Op::Constant | Op::Symbol | Op::Text | Op::Int | Op::Hex) | None => return leaf_value(
+            m, t, i,
+        ),
+        Some(op) => op,
+    };
     let left = fields::left_of(m, i);
     let right = fields::right_of(m, i);
-    match fields::node_op(m, i) {
-        Some(Op::Not) => at(done, left).not(),
-        Some(Op::And) => at(done, left).and(at(done, right)),
-        Some(Op::Or) => at(done, left).or(at(done, right)),
-        Some(Op::Equal) => equal(m, t, left, right),
-        Some(Op::Unequal) => equal(m, t, left, right).not(),
+    match op {
+        Op::Not => at(done, left).not(),
+        Op::And => at(done, left).and(at(done, right)),
+        Op::Or => at(done, left).or(at(done, right)),
+        Op::Equal => equal(m, t, left, right),
+        Op::Unequal => equal(m, t, left, right).not(),
         _ => Tri::N,
     }
 }
