@@ -1,6 +1,8 @@
 -- From one input no second answer meets what a public function of this crate ensures: of the contracts themselves, as Rattle reads them. Assumes nothing.
-use mathlib.Core.Path.{sym, ◌∙◌}
+use mathlib.Core.Path.{◌≡◌, sym, ◌∙◌, ap}
+use Prim.Native.Nat.{ℕ}
 use Rattle.tri.specs.Once.{Once, OnceIn}
+use Rattle.fields.specs.declared.Node.{Node}
 use Rattle.fields.proofs.Numbered.{same_op, same_type, same_node_op, same_symbol_type}
 use Rattle.fields.proofs.OpTryFromU8.try_from.Kinds as OpTryFromKinds
 use Rattle.fields.proofs.OpTryFromU8.try_from.Reads as OpTryFromReads
@@ -54,6 +56,8 @@ use Rattle.fields.proofs.left_of.Kinds as LeftOfKinds
 use Rattle.fields.proofs.left_of.Reads as LeftOfReads
 use Rattle.fields.proofs.right_of.Kinds as RightOfKinds
 use Rattle.fields.proofs.right_of.Reads as RightOfReads
+use Rattle.fields.proofs.node_at.Kinds as NodeAtKinds
+use Rattle.fields.proofs.node_at.Reads as NodeAtReads
 use Rattle.fields.proofs.default_symbol.Kinds as DefaultSymbolKinds
 use Rattle.fields.proofs.default_symbol.Reads as DefaultSymbolReads
 use Rattle.fields.proofs.default_value.Kinds as DefaultValueKinds
@@ -170,6 +174,17 @@ left_of_once κs a x y s t p q = p.0 ∙ sym q.0
 
 pub right_of_once : Once 1 RightOfKinds.ps RightOfKinds.r RightOfReads.Post
 right_of_once κs a x y s t p q = p.0 ∙ sym q.0
+
+-- a record is its four fields
+same_record : {a b : Node} → a.op ≡ b.op → a.zero ≡ b.zero → a.left ≡ b.left → a.right ≡ b.right → a ≡ b
+same_record {a} {b} o z l r =
+    ap (λ (v : ℕ). record { op = v; zero = a.zero; left = a.left; right = a.right }) o ∙
+    (ap (λ (v : ℕ). record { op = b.op; zero = v; left = a.left; right = a.right }) z ∙
+    (ap (λ (v : ℕ). record { op = b.op; zero = b.zero; left = v; right = a.right }) l ∙
+    ap (λ (v : ℕ). record { op = b.op; zero = b.zero; left = b.left; right = v }) r))
+
+pub node_at_once : Once 1 NodeAtKinds.ps NodeAtKinds.r NodeAtReads.Post
+node_at_once κs a x y s t p q = same_record (p.0 ∙ sym q.0) (p.1 ∙ sym q.1) (p.2 ∙ sym q.2) (p.4 ∙ sym q.4)
 
 pub default_symbol_once : Once 1 DefaultSymbolKinds.ps DefaultSymbolKinds.r DefaultSymbolReads.Post
 default_symbol_once κs a x y s t p q = p.0 ∙ sym q.0

@@ -296,6 +296,48 @@ pub fn right_of(m: &[u8], i: usize) -> usize
     half_in(m, 2, 6, i, 4)
 }
 
+// A node's record. The op is its byte: what a record may hold is asked of numbers that are no op too.
+#[derive(Clone, Copy)]
+pub struct Node {
+    pub op: u8,
+    pub zero: u8,
+    pub left: usize,
+    pub right: usize,
+}
+
+// A node's record that the book ends in or before, field by field.
+#[cold]
+#[inline(never)]
+fn cut_node(m: &[u8], i: usize) -> Node
+    requires { i < 2 ^ 32 }
+    ensures { (result.op ≡ op_of m.now i) × (result.zero ≡ zero_of m.now i) × (result.left ≡ left_of m.now i) × (result.left < 65536) × (result.right ≡ right_of m.now i) × (result.right < 65536) }
+{
+    Node {
+        op: op_of(m, i),
+        zero: zero_of(m, i),
+        left: left_of(m, i),
+        right: right_of(m, i),
+    }
+}
+
+// A node's record, for whoever reads most of it: whether it stands in the book is asked once, and not at each field.
+#[inline]
+pub fn node_at(m: &[u8], i: usize) -> Node
+    requires { i < 2 ^ 32 }
+    ensures { (result.op ≡ op_of m.now i) × (result.zero ≡ zero_of m.now i) × (result.left ≡ left_of m.now i) × (result.left < 65536) × (result.right ≡ right_of m.now i) × (result.right < 65536) }
+{
+    let at = start(m, 2) + i * 6;
+    if m.len() < at + 6 {
+        return cut_node(m, i);
+    }
+    Node {
+        op: m[at],
+        zero: m[at + 1],
+        left: raw::half(m, at + 2),
+        right: raw::half(m, at + 4),
+    }
+}
+
 // The symbol that a default is on.
 pub fn default_symbol(m: &[u8], i: usize) -> usize
     requires { i < 2 ^ 32 }

@@ -88,14 +88,8 @@ fn node_ok(m: &[u8], i: usize) -> bool
     requires { i < 2 ^ 32 }
     ensures { result ≡ node_ok m.now i }
 {
-    let fits = node_fits(
-        m,
-        i,
-        fields::op_of(m, i),
-        fields::left_of(m, i),
-        fields::right_of(m, i),
-    );
-    (fields::zero_of(m, i) == 0) & fits
+    let node = fields::node_at(m, i);
+    (node.zero == 0) & node_fits(m, i, node.op, node.left, node.right)
 }
 
 // A default: a string's, int's or hex's is a leaf.

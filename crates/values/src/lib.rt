@@ -90,21 +90,14 @@ fn node_value(m: &[u8], t: &[u8], done: &[u8], i: usize) -> Tri
     requires { i < 2 ^ 32 }
     ensures { result.v ≡ node_value m.now t.now done.now i }
 {
-    let op = match fields::node_op(m, i) {
-        Some(Op::Constant | Op::Symbol | Op::Text | Op::Int | Op::Hex) | None => return leaf_value(
-            m, t, i,
-        ),
-        Some(op) => op,
-    };
-    let left = fields::left_of(m, i);
-    let right = fields::right_of(m, i);
-    match op {
-        Op::Not => at(done, left).not(),
-        Op::And => at(done, left).and(at(done, right)),
-        Op::Or => at(done, left).or(at(done, right)),
-        Op::Equal => equal(m, t, left, right),
-        Op::Unequal => equal(m, t, left, right).not(),
-        _ => Tri::N,
+    let node = fields::node_at(m, i);
+    match Op::try_from(node.op) {
+        Ok(Op::Not) => at(done, node.left).not(),
+        Ok(Op::And) => at(done, node.left).and(at(done, node.right)),
+        Ok(Op::Or) => at(done, node.left).or(at(done, node.right)),
+        Ok(Op::Equal) => equal(m, t, node.left, node.right),
+        Ok(Op::Unequal) => equal(m, t, node.left, node.right).not(),
+        _ => leaf_value(m, t, i),
     }
 }
 
